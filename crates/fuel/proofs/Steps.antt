@@ -10,9 +10,9 @@ use Rattle.std.specs.declared.option.Option.{Option}
 use Rattle.std.specs.declared.option.Option.the-variants.{Some}
 use Rattle.std.specs.declared.result.Result.{Result}
 use Rattle.std.specs.declared.result.Result.the-variants.{Ok, Err}
-use Rattle.guest.specs.declared.memory.GuestError.{GuestError}
-use Rattle.guest.specs.declared.memory.Region.{Region}
-use Rattle.guest.specs.Layout.{read-at}
+use Rattle.memory.specs.declared.GuestError.{GuestError}
+use Rattle.memory.specs.declared.Region.{Region}
+use Rattle.records.specs.Layout.{read-at}
 use Rattle.fuel.specs.Vectors.{first, vectors}
 
 module _ {X : Type 0} (named : X → Region) (size align : ℕ) (parsed : List ℕ → X) (memory : List ℕ) where

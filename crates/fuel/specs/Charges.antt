@@ -5,9 +5,9 @@ use Prim.Native.Nat.{ℕ, _-_}
 use lib.Dec.{leb}
 use Rattle.std.specs.declared.result.Result.{Result}
 use Rattle.std.specs.declared.result.Result.the-variants.{Ok, Err}
-use Rattle.types.specs.declared.errno.Errno.the-variants.{Nomem}
-use Rattle.types.specs.declared.error.Error.{Error}
-use Rattle.types.specs.declared.error.Error.the-variants.{Errno}
+use Rattle.errno.specs.declared.Errno.the-variants.{Nomem}
+use Rattle.errno.specs.declared.Error.{Error}
+use Rattle.errno.specs.declared.Error.the-variants.{Errno}
 
 -- an answer, and the fuel after it
 abbrev pub Outcome : Type 0 → Type 0

@@ -7,10 +7,10 @@ use lib.Dec.{leb}
 use lib.ListN.{length}
 use Rattle.std.specs.declared.result.Result.{Result}
 use Rattle.std.specs.declared.result.Result.the-variants.{Ok, Err}
-use Rattle.types.specs.declared.error.Error.{Error}
-use Rattle.guest.specs.declared.memory.GuestError.the-variants.{PtrOutOfBounds, InvalidUtf8}
-use Rattle.guest.specs.declared.memory.Region.{Region}
-use Rattle.guest.specs.Memory.{bytes-at, told}
+use Rattle.errno.specs.declared.Error.{Error}
+use Rattle.memory.specs.declared.GuestError.the-variants.{PtrOutOfBounds, InvalidUtf8}
+use Rattle.memory.specs.declared.Region.{Region}
+use Rattle.memory.specs.Ranges.{bytes-at, told}
 use Rattle.utf8.specs.Grammar.{Utf8-octets}
 use Rattle.fuel.specs.Charges.{Outcome, charge}
 

@@ -7,10 +7,10 @@ use Rattle.std.specs.declared.option.Option.{Option}
 use Rattle.std.specs.declared.option.Option.the-variants.{Some, None}
 use Rattle.std.specs.declared.result.Result.{Result}
 use Rattle.std.specs.declared.result.Result.the-variants.{Ok, Err}
-use Rattle.guest.specs.declared.memory.GuestError.{GuestError}
-use Rattle.guest.specs.declared.memory.Region.{Region}
-use Rattle.guest.specs.Layout.{read-at}
-use Rattle.guest.specs.Memory.{told}
+use Rattle.memory.specs.declared.GuestError.{GuestError}
+use Rattle.memory.specs.declared.Region.{Region}
+use Rattle.records.specs.Layout.{read-at}
+use Rattle.memory.specs.Ranges.{told}
 use Rattle.fuel.specs.declared.vectors.Array.{Array}
 use Rattle.fuel.specs.Charges.{Outcome, charge}
 

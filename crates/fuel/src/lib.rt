@@ -4,9 +4,9 @@ mod vectors;
 
 ghost use Prim.Native.Nat.{_*_};
 ghost use Rattle.fuel.specs.Charges.{Is, charged};
-use guest::GuestType;
-use types::Errno;
-use types::Error;
+use records::GuestType;
+use errno::Errno;
+use errno::Error;
 
 pub use path::read_string;
 pub use vectors::Array;

@@ -4,11 +4,11 @@ ghost use Prim.Native.Nat.{_*_, _+_, _≤_};
 ghost use Rattle.fuel.specs.Charges.{Is};
 ghost use Rattle.fuel.specs.Vectors.{first, firstNonEmpty, vectors};
 use crate::Fuel;
-use guest::GuestError;
-use guest::Region;
-use guest::Vector;
-use types::Error;
-use guest::ErrorFromGuestError;
+use memory::GuestError;
+use memory::Region;
+use records::Vector;
+use errno::Error;
+use memory::ErrorFromGuestError;
 
 // `count` records from an address on.
 #[derive(Clone, Copy)]

@@ -3,8 +3,8 @@ use mathlib.Core.Path.{_≡_}
 use Prim.Native.Nat.{ℕ, _<_, _≤_}
 use Rattle.std.specs.declared.result.Result.{Result}
 use Rattle.std.specs.declared.result.Result.the-variants.{Ok, Err}
-use Rattle.types.specs.declared.errno.Errno.{Errno}
-use Rattle.types.specs.declared.errno.Errno.the-variants.{Inval}
+use Rattle.errno.specs.declared.Errno.{Errno}
+use Rattle.errno.specs.declared.Errno.the-variants.{Inval}
 
 -- a word below the limit is taken for what has that number, and any other is refused with inval
 abbrev pub Taken : {X : Type 0} → (X → ℕ) → ℕ → ℕ → Result X Errno → Type 0

@@ -1,10 +1,10 @@
 // Flags and rights: integers whose low bits have names. A guest's word passes only if it has no other bit.
 ghost use Prim.Native.Nat.{_^_};
 ghost use Rattle.types.specs.Words.{Taken};
-use crate::errno::Errno;
+use errno::Errno;
 
 // How an opening is read and written.
-#[derive(Clone, Copy, PartialEq, Eq, Debug)]
+#[derive(Clone, Copy, PartialEq, Eq)]
 pub struct Fdflags(pub u16);
 
 impl Fdflags {
@@ -29,7 +29,7 @@ pub impl TryFrom<u32> for Fdflags as FdflagsTryFrom {
 }
 
 // What opening a path does beside opening it.
-#[derive(Clone, Copy, PartialEq, Eq, Debug)]
+#[derive(Clone, Copy, PartialEq, Eq)]
 pub struct Oflags(pub u16);
 
 impl Oflags {
@@ -53,7 +53,7 @@ pub impl TryFrom<u32> for Oflags as OflagsTryFrom {
 }
 
 // How a path is resolved.
-#[derive(Clone, Copy, PartialEq, Eq, Debug)]
+#[derive(Clone, Copy, PartialEq, Eq)]
 pub struct Lookupflags(pub u32);
 
 impl Lookupflags {
@@ -74,7 +74,7 @@ pub impl TryFrom<u32> for Lookupflags as LookupflagsTryFrom {
 }
 
 // What may be done through an opening.
-#[derive(Clone, Copy, PartialEq, Eq, Debug)]
+#[derive(Clone, Copy, PartialEq, Eq)]
 pub struct Rights(pub u64);
 
 impl Rights {

@@ -1,17 +1,8 @@
 // The types of WASI preview 1 that the calls take and answer, with their numbers from witx.
-mod errno;
-mod error;
 mod filetype;
 mod flags;
 mod whence;
 
-pub use errno::Errno;
-pub use errno::ErrnoFromErrorCode;
-pub use errno::ErrorCode;
-pub use error::Error;
-pub use error::ErrorFromErrno;
-pub use error::ErrorFromErrorCode;
-pub use error::TrapCause;
 pub use filetype::Filetype;
 pub use flags::Fdflags;
 pub use flags::FdflagsTryFrom;
@@ -25,9 +16,9 @@ pub use whence::Whence;
 pub use whence::WhenceTryFrom;
 
 // A descriptor number, as a guest knows an opening.
-#[derive(Clone, Copy, PartialEq, Eq, Debug)]
+#[derive(Clone, Copy, PartialEq, Eq)]
 pub struct Fd(pub u32);
 
 // A host's name for something that it holds open. No guest ever sees one.
-#[derive(Clone, Copy, PartialEq, Eq, Debug)]
+#[derive(Clone, Copy, PartialEq, Eq)]
 pub struct Handle(pub u32);

@@ -1,9 +1,9 @@
 // From where a seek counts.
 ghost use Rattle.types.specs.Numbers.{whence-number};
 ghost use Rattle.types.specs.Words.{Taken};
-use crate::errno::Errno;
+use errno::Errno;
 
-#[derive(Clone, Copy, PartialEq, Eq, Debug)]
+#[derive(Clone, Copy, PartialEq, Eq)]
 pub enum Whence {
     Set = 0,
     Cur = 1,

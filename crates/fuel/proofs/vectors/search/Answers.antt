@@ -3,7 +3,7 @@ use Prim.Native.Nat.{_+_, _*_}
 use native.Mathlib.Nat.{mul-add}
 use native.Mathlib.Omega.{arith}
 use Rattle.std.proofs.shelf.Results.{err-from-errBy}
-use Rattle.guest.specs.declared.memory.Region.{Region}
+use Rattle.memory.specs.declared.Region.{Region}
 use Rattle.fuel.proofs.Steps.{faulty, filled, empty}
 use Rattle.fuel.proofs.vectors.search.Needs as need
 

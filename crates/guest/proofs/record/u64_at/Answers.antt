@@ -1,6 +1,0 @@
-use mathlib.Core.Path.{_∙_}
-use Rattle.guest.proofs.Numbers.{of-eight}
-use Rattle.guest.proofs.record.u64_at.Needs as need
-
-pub returns : need.returns
-returns c = c .from-le-bytes .ensures ∙ of-eight (c .args .bytes .now) (c .args .at) (c .pre)
