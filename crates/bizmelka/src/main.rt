@@ -5,16 +5,18 @@ use fuel::Array;
 use fuel::Fuel;
 use fuel::first_non_empty;
 use fuel::read_string;
+use memory::GuestErrorDebug;
 use memory::Region;
 use records::Ciovec;
-use records::GuestType;
-use std::io;
-use memory::GuestErrorDebug;
 use records::CiovecGuestType;
 use records::CiovecVector;
+use records::GuestType;
+use std::io;
 
 const MEMORY: usize = 64;
+
 const VECTORS: Array = Array { ptr: 8, count: 2 };
+
 const STITCHES: Region = Region { ptr: 40, len: 10 };
 
 fn lay_vector(rt: &impl Print, memory: &mut [u8], ptr: u32, vector: Ciovec) -> io::Result<()> {
@@ -34,17 +36,34 @@ fn refused(rt: &impl Print, error: Error, left: u64) -> io::Result<()> {
 }
 
 fn find_buffer(rt: &impl Print, fuel: &mut Fuel, memory: &[u8], array: Array) -> io::Result<()> {
-    println!(rt, "{} vectors from {} on, fuel {}", array.count, array.ptr, fuel.remaining)?;
+    println!(
+        rt,
+        "{} vectors from {} on, fuel {}",
+        array.count, array.ptr, fuel.remaining
+    )?;
     match first_non_empty::<Ciovec>(fuel, memory, array) {
-        Ok(buffer) => println!(rt, "  the first non-empty one names {} bytes at {}, fuel left {}", buffer.len, buffer.ptr, fuel.remaining),
+        Ok(buffer) => println!(
+            rt,
+            "  the first non-empty one names {} bytes at {}, fuel left {}",
+            buffer.len, buffer.ptr, fuel.remaining
+        ),
         Err(error) => refused(rt, error, fuel.remaining),
     }
 }
 
 fn check_path(rt: &impl Print, fuel: &mut Fuel, memory: &[u8], path: Region) -> io::Result<()> {
-    println!(rt, "a path of {} bytes at {}, fuel {}", path.len, path.ptr, fuel.remaining)?;
+    println!(
+        rt,
+        "a path of {} bytes at {}, fuel {}",
+        path.len, path.ptr, fuel.remaining
+    )?;
     match read_string(fuel, memory, path) {
-        Ok(bytes) => println!(rt, "  {} bytes of UTF-8, fuel left {}", bytes.len(), fuel.remaining),
+        Ok(bytes) => println!(
+            rt,
+            "  {} bytes of UTF-8, fuel left {}",
+            bytes.len(),
+            fuel.remaining
+        ),
         Err(error) => refused(rt, error, fuel.remaining),
     }
 }
@@ -53,13 +72,29 @@ fn check_path(rt: &impl Print, fuel: &mut Fuel, memory: &[u8], path: Region) -> 
 fn lay_out(rt: &impl Print, memory: &mut [u8; MEMORY]) -> io::Result<()> {
     memory[40..50].copy_from_slice(b"crest.dst\xff");
     lay_vector(rt, memory, VECTORS.ptr, Ciovec { buf: 0, buf_len: 0 })?;
-    lay_vector(rt, memory, VECTORS.ptr + 8, Ciovec { buf: STITCHES.ptr, buf_len: STITCHES.len })
+    lay_vector(
+        rt,
+        memory,
+        VECTORS.ptr + 8,
+        Ciovec {
+            buf: STITCHES.ptr,
+            buf_len: STITCHES.len,
+        },
+    )
 }
 
 fn make_calls(rt: &impl Print, memory: &[u8]) -> io::Result<()> {
     let mut fuel = Fuel { remaining: 64 };
     find_buffer(rt, &mut fuel, memory, VECTORS)?;
-    check_path(rt, &mut fuel, memory, Region { ptr: STITCHES.ptr, len: 9 })?;
+    check_path(
+        rt,
+        &mut fuel,
+        memory,
+        Region {
+            ptr: STITCHES.ptr,
+            len: 9,
+        },
+    )?;
     check_path(rt, &mut fuel, memory, STITCHES)?;
     find_buffer(rt, &mut fuel, memory, Array { ptr: 2, count: 1 })?;
     find_buffer(rt, &mut fuel, memory, VECTORS)

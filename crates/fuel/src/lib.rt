@@ -4,11 +4,10 @@ mod vectors;
 
 ghost use Prim.Native.Nat.{_*_};
 ghost use Rattle.fuel.specs.Charges.{Is, charged};
-use records::GuestType;
 use errno::Errno;
 use errno::Error;
-
 pub use path::read_string;
+use records::GuestType;
 pub use vectors::Array;
 pub use vectors::first_non_empty;
 

@@ -6,11 +6,11 @@ ghost use Rattle.std.specs.declared.result.Result.the-variants.{Ok, Err};
 ghost use Rattle.fuel.specs.Charges.{Is};
 ghost use Rattle.fuel.specs.Paths.{ReadString, found};
 use crate::Fuel;
+use errno::Error;
+use memory::ErrorFromGuestError;
 use memory::GuestError;
 use memory::Region;
-use errno::Error;
 use utf8::is_utf8;
-use memory::ErrorFromGuestError;
 
 // The bytes of a region, paid for.
 fn paid_bytes<'a>(fuel: &mut Fuel, memory: &'a [u8], region: Region) -> Result<&'a [u8], Error>

@@ -4,11 +4,11 @@ ghost use Prim.Native.Nat.{_*_, _+_, _≤_};
 ghost use Rattle.fuel.specs.Charges.{Is};
 ghost use Rattle.fuel.specs.Vectors.{first, firstNonEmpty, vectors};
 use crate::Fuel;
+use errno::Error;
+use memory::ErrorFromGuestError;
 use memory::GuestError;
 use memory::Region;
 use records::Vector;
-use errno::Error;
-use memory::ErrorFromGuestError;
 
 // `count` records from an address on.
 #[derive(Clone, Copy)]
@@ -34,7 +34,11 @@ fn search<T: Vector + Drop>(memory: &[u8], array: Array) -> Result<Option<Region
 }
 
 // The buffer, or an empty one where every vector is empty. Charged for are the array and then the buffer.
-pub fn first_non_empty<T: Vector + Drop>(fuel: &mut Fuel, memory: &[u8], array: Array) -> Result<Region, Error>
+pub fn first_non_empty<T: Vector + Drop>(
+    fuel: &mut Fuel,
+    memory: &[u8],
+    array: Array,
+) -> Result<Region, Error>
     ensures { λ r. ⌜ Is (firstNonEmpty (T·GuestType .size) (T·GuestType .align) (T·GuestType .parsed) (T·Vector .named) (now (memory .entry)) array (now (fuel .entry) .remaining)) r (now (fuel .exit) .remaining) ⌝ }
 {
     fuel.consume_fuel_for_array::<T>(array.count)?;

@@ -11,9 +11,9 @@ use Rattle.types.specs.Numbers.{filetype-number, filetype-of}
 use Rattle.memory.specs.Ranges.{bytes-at, with-bytes}
 use Rattle.memory.specs.declared.GuestError.{GuestError}
 use Rattle.memory.specs.declared.GuestError.the-variants.{PtrOutOfBounds, PtrNotAligned}
-use Rattle.records.specs.declared.Ciovec.{Ciovec}
-use Rattle.records.specs.declared.Dirent.{Dirent}
-use Rattle.records.specs.declared.Iovec.{Iovec}
+use Rattle.records.specs.declared.ciovec.Ciovec.{Ciovec}
+use Rattle.records.specs.declared.dirent.Dirent.{Dirent}
+use Rattle.records.specs.declared.iovec.Iovec.{Iovec}
 
 -- the n bytes of a number, the lowest first
 abbrev pub little-endian : ℕ → ℕ → List ℕ
@@ -40,8 +40,11 @@ abbrev pub ciovec-of : List ℕ → Ciovec
 ciovec-of bs = record { buf = field bs 0 4; «buf_len» = field bs 4 4 }
 
 -- d_next, 8 bytes at 0; d_ino, 8 at 8; d_namlen, 4 at 16; d_type, 1 at 20; zeros up to 24
-unfoldable pub dirent-bytes : Dirent → List ℕ
-dirent-bytes d = little-endian 8 (d .«d_next») ++ little-endian 8 (d .«d_ino») ++ little-endian 4 (d .«d_namlen») ++ (filetype-number (d .«d_type») ∷ 0 ∷ 0 ∷ 0 ∷ [])
+unfoldable pub entry-bytes : ℕ → ℕ → ℕ → ℕ → List ℕ
+entry-bytes next ino namlen type = little-endian 8 next ++ little-endian 8 ino ++ little-endian 4 namlen ++ (type ∷ 0 ∷ 0 ∷ 0 ∷ [])
+
+abbrev pub dirent-bytes : Dirent → List ℕ
+dirent-bytes d = entry-bytes (d .«d_next») (d .«d_ino») (d .«d_namlen») (filetype-number (d .«d_type»))
 
 abbrev pub dirent-of : List ℕ → Dirent
 dirent-of bs = record { «d_next» = field bs 0 8; «d_ino» = field bs 8 8; «d_namlen» = field bs 16 4; «d_type» = filetype-of (field bs 20 1) }

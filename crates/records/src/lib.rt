@@ -1,15 +1,27 @@
 // Records of witx: how many bytes each has, where it may lie, and how it is read and written.
 ghost use mathlib.Core.Path.{_≡_};
 ghost use mathlib.Core.List.{List};
-ghost use Prim.Native.Nat.{ℕ, _+_, _^_, _<_, _≤_};
+ghost use Prim.Native.Nat.{ℕ, _+_, _<_, _≤_};
 ghost use lib.ListN.{length};
 ghost use Rattle.std.specs.declared.result.Result.the-variants.{Ok, Err};
 ghost use Rattle.std.specs.Vec.{made};
 ghost use Rattle.memory.specs.declared.Region.{Region as RegionOf};
-ghost use Rattle.records.specs.Layout.{ciovec-of, dirent-bytes, dirent-of, field, iovec-of, placed, read-at, vector-bytes, WriteAt};
+ghost use Rattle.records.specs.Layout.{field, placed, read-at, vector-bytes, WriteAt};
 use memory::GuestError;
 use memory::Region;
-use types::Filetype;
+
+mod ciovec;
+mod dirent;
+mod iovec;
+
+pub use ciovec::Ciovec;
+pub use ciovec::CiovecGuestType;
+pub use ciovec::CiovecVector;
+pub use dirent::Dirent;
+pub use dirent::DirentGuestType;
+pub use iovec::Iovec;
+pub use iovec::IovecGuestType;
+pub use iovec::IovecVector;
 
 // How many bytes a record has, and at multiples of what it may lie.
 #[derive(Clone, Copy)]
@@ -21,6 +33,7 @@ pub struct Layout {
 // A record of witx in a guest's memory. Its address is given in 64 bits, so that those of an array do not wrap.
 pub trait GuestType: Sized {
     const SIZE: u32;
+
     const ALIGN: u32;
 
     // SIZE and ALIGN, under names that a contract can cite.
@@ -56,149 +69,6 @@ pub trait Vector: GuestType {
     // buf and buf_len.
     fn buffer(&self) -> Region
         ensures { λ r. ⌜ r ≡ named (now (self .entry)) ⌝ };
-}
-
-// A buffer to read into.
-#[derive(Clone, Copy)]
-pub struct Iovec {
-    pub buf: u32,
-    pub buf_len: u32,
-}
-
-pub impl GuestType for Iovec as IovecGuestType {
-    const SIZE: u32 = 8;
-    const ALIGN: u32 = 4;
-
-    ghost size = { 8 };
-
-    ghost align = { 4 };
-
-    ghost fits = { λ x. (x .buf < 2 ^ 32) × (x .«buf_len» < 2 ^ 32) };
-
-    ghost bytes = { λ x. vector-bytes (x .buf) (x .«buf_len») };
-
-    ghost parsed = { iovec-of };
-
-    fn layout() -> Layout {
-        Layout { size: Self::SIZE, align: Self::ALIGN }
-    }
-
-    fn read(memory: &[u8], ptr: u64) -> Result<Iovec, GuestError> {
-        let bytes = load(memory, ptr, Self::SIZE, Self::ALIGN)?;
-        Ok(Iovec { buf: u32_at(bytes, 0), buf_len: u32_at(bytes, 4) })
-    }
-
-    fn write(&self, memory: &mut [u8], ptr: u64) -> Result<(), GuestError> {
-        store(memory, ptr, Self::ALIGN, &vector_to_bytes(self.buf, self.buf_len))
-    }
-}
-
-pub impl Vector for Iovec as IovecVector {
-    ghost named = { λ x. record { ptr = x .buf; len = x .«buf_len» } };
-
-    fn buffer(&self) -> Region {
-        Region { ptr: self.buf, len: self.buf_len }
-    }
-}
-
-// A buffer to write from.
-#[derive(Clone, Copy)]
-pub struct Ciovec {
-    pub buf: u32,
-    pub buf_len: u32,
-}
-
-pub impl GuestType for Ciovec as CiovecGuestType {
-    const SIZE: u32 = 8;
-    const ALIGN: u32 = 4;
-
-    ghost size = { 8 };
-
-    ghost align = { 4 };
-
-    ghost fits = { λ x. (x .buf < 2 ^ 32) × (x .«buf_len» < 2 ^ 32) };
-
-    ghost bytes = { λ x. vector-bytes (x .buf) (x .«buf_len») };
-
-    ghost parsed = { ciovec-of };
-
-    fn layout() -> Layout {
-        Layout { size: Self::SIZE, align: Self::ALIGN }
-    }
-
-    fn read(memory: &[u8], ptr: u64) -> Result<Ciovec, GuestError> {
-        let bytes = load(memory, ptr, Self::SIZE, Self::ALIGN)?;
-        Ok(Ciovec { buf: u32_at(bytes, 0), buf_len: u32_at(bytes, 4) })
-    }
-
-    fn write(&self, memory: &mut [u8], ptr: u64) -> Result<(), GuestError> {
-        store(memory, ptr, Self::ALIGN, &vector_to_bytes(self.buf, self.buf_len))
-    }
-}
-
-pub impl Vector for Ciovec as CiovecVector {
-    ghost named = { λ x. record { ptr = x .buf; len = x .«buf_len» } };
-
-    fn buffer(&self) -> Region {
-        Region { ptr: self.buf, len: self.buf_len }
-    }
-}
-
-// An entry of a listing, which its name follows.
-#[derive(Clone, Copy)]
-pub struct Dirent {
-    pub d_next: u64,
-    pub d_ino: u64,
-    pub d_namlen: u32,
-    pub d_type: Filetype,
-}
-
-impl Dirent {
-    // The whole record, for whoever copies as much of it as there is room for.
-    pub fn to_bytes(&self) -> [u8; 24]
-        ensures { λ r. ⌜ r ≡ dirent-bytes (now (self .entry)) ⌝ }
-    {
-        let next = self.d_next.to_le_bytes();
-        let ino = self.d_ino.to_le_bytes();
-        let namlen = self.d_namlen.to_le_bytes();
-        [
-            next[0], next[1], next[2], next[3], next[4], next[5], next[6], next[7], ino[0], ino[1], ino[2], ino[3], ino[4], ino[5],
-            ino[6], ino[7], namlen[0], namlen[1], namlen[2], namlen[3], self.d_type.number(), 0, 0, 0,
-        ]
-    }
-}
-
-pub impl GuestType for Dirent as DirentGuestType {
-    const SIZE: u32 = 24;
-    const ALIGN: u32 = 8;
-
-    ghost size = { 24 };
-
-    ghost align = { 8 };
-
-    ghost fits = { λ x. (x .«d_next» < 2 ^ 64) × (x .«d_ino» < 2 ^ 64) × (x .«d_namlen» < 2 ^ 32) };
-
-    ghost bytes = { dirent-bytes };
-
-    ghost parsed = { dirent-of };
-
-    fn layout() -> Layout {
-        Layout { size: Self::SIZE, align: Self::ALIGN }
-    }
-
-    fn read(memory: &[u8], ptr: u64) -> Result<Dirent, GuestError> {
-        let bytes = load(memory, ptr, Self::SIZE, Self::ALIGN)?;
-        Ok(Dirent {
-            d_next: u64_at(bytes, 0),
-            d_ino: u64_at(bytes, 8),
-            d_namlen: u32_at(bytes, 16),
-            d_type: Filetype::from_number(bytes[20]),
-        })
-    }
-
-    fn write(&self, memory: &mut [u8], ptr: u64) -> Result<(), GuestError> {
-        store(memory, ptr, Self::ALIGN, &self.to_bytes())
-    }
 }
 
 // The index of the first of `size` bytes that are aligned and end within the memory.
@@ -242,6 +112,14 @@ fn vector_to_bytes(buf: u32, buf_len: u32) -> [u8; 8]
     let a = buf.to_le_bytes();
     let n = buf_len.to_le_bytes();
     [a[0], a[1], a[2], a[3], n[0], n[1], n[2], n[3]]
+}
+
+// The number of one byte.
+fn u8_at(bytes: &[u8], at: usize) -> u8
+    requires { ⌜ at < length (now bytes) ⌝ }
+    ensures { λ r. ⌜ r ≡ field (now (bytes .entry)) at 1 ⌝ }
+{
+    bytes[at]
 }
 
 // The number of four bytes, the lowest first.

@@ -4,6 +4,8 @@ mod flags;
 mod whence;
 
 pub use filetype::Filetype;
+pub use filetype::FiletypeDebug;
+pub use filetype::FiletypePartialEq;
 pub use flags::Fdflags;
 pub use flags::FdflagsTryFrom;
 pub use flags::Lookupflags;

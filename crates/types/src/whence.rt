@@ -3,7 +3,7 @@ ghost use Rattle.types.specs.Numbers.{whence-number};
 ghost use Rattle.types.specs.Words.{Taken};
 use errno::Errno;
 
-#[derive(Clone, Copy, PartialEq, Eq)]
+#[derive(Clone, Copy)]
 pub enum Whence {
     Set = 0,
     Cur = 1,

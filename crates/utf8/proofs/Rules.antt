@@ -120,9 +120,9 @@ took : (n low high b : ℕ) (bs : List ℕ) → Goes bs → accepts (cond (betwe
 took n low high b bs ih e =
     ⊎-elim
     (λ t.
-      let parts = and-parts (leb low b) (leb b high) t in
-      let p = ih n 128 191 (sym (ap (λ (k : Bool). accepts (cond k (Some (pending n 128 191)) None) bs) t) ∙ e) in
-      record { front = b ∷ p .front; behind = p .behind; matches = (record { least = leb-true low b (parts .0); most = leb-true b high (parts .1) }, p .matches); octets = p .octets; whole = ap (λ xs. b ∷ xs) (p .whole) })
+    let parts = and-parts (leb low b) (leb b high) t in
+    let p = ih n 128 191 (sym (ap (λ (k : Bool). accepts (cond k (Some (pending n 128 191)) None) bs) t) ∙ e) in
+    record { front = b ∷ p .front; behind = p .behind; matches = (record { least = leb-true low b (parts .0); most = leb-true b high (parts .1) }, p .matches); octets = p .octets; whole = ap (λ xs. b ∷ xs) (p .whole) })
     (λ f. absurd (false≢true (sym (ap (λ (k : Bool). accepts (cond k (Some (pending n 128 191)) None) bs) f) ∙ e)))
     (cases-bool (between low high b))
 
@@ -164,6 +164,7 @@ emptied [] v bs m e = e
 emptied (b ∷ u) v bs m e = absurd m
 
 pub decided : (bs : List ℕ) (r : Bool) → r ≡ accepts (Some (pending 0 128 191)) bs → Decides r (Utf8-octets bs)
-decided bs r e =
-    (λ t. let p = sound bs 0 128 191 (sym e ∙ t) in (p .octets .0, p .octets .1, p .octets .2 ∙ emptied (p .front) (p .behind) bs (p .matches) (p .whole)),
-    λ o. e ∙ sym (ap start (o .2)) ∙ run-chars (o .0) (o .1))
+decided bs r e = (
+  λ t. let p = sound bs 0 128 191 (sym e ∙ t) in (p .octets .0, p .octets .1, p .octets .2 ∙ emptied (p .front) (p .behind) bs (p .matches) (p .whole)),
+  λ o. e ∙ sym (ap start (o .2)) ∙ run-chars (o .0) (o .1),
+)

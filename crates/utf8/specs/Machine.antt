@@ -5,7 +5,9 @@ use Prim.Native.Nat.{ℕ, _-_}
 use lib.Dec.{eqb, leb}
 use Rattle.std.specs.declared.option.Option.{Option}
 use Rattle.std.specs.declared.option.Option.the-variants.{Some, None}
+use Rattle.std.specs.Orderings.{Decides}
 use Rattle.utf8.specs.declared.Pending.{Pending}
+use Rattle.utf8.specs.Grammar.{Utf8-octets}
 
 abbrev pub pending : ℕ → ℕ → ℕ → Pending
 pending more low high = record { more = more; low = low; high = high }
@@ -23,3 +25,8 @@ abbrev pub accepts : Option Pending → List ℕ → Bool
 accepts None bs = false
 accepts (Some p) [] = eqb (p .more) 0
 accepts (Some p) (b ∷ bs) = accepts (after p b) bs
+
+-- what going through some bytes tells of them
+abbrev pub Scanned : List ℕ → Option Pending → Type 0
+Scanned bs None = Utf8-octets bs → ⊥
+Scanned bs (Some p) = Decides (eqb (p .more) 0) (Utf8-octets bs)

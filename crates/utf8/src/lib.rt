@@ -1,9 +1,8 @@
 // Whether bytes are UTF-8 by RFC 3629: no overlong forms, no surrogates, nothing above U+10FFFF.
 ghost use mathlib.Core.Path.{_≡_};
-ghost use Rattle.std.specs.declared.option.Option.the-variants.{Some};
 ghost use Rattle.std.specs.Orderings.{Decides};
 ghost use Rattle.utf8.specs.Grammar.{Utf8-octets};
-ghost use Rattle.utf8.specs.Machine.{accepts, after, between, lead, pending};
+ghost use Rattle.utf8.specs.Machine.{Scanned, after, lead, pending};
 
 // What a character still wants: `more` bytes, of which the next is within `low` to `high`.
 #[derive(Clone, Copy)]
@@ -16,7 +15,11 @@ struct Pending {
 fn tails(more: u8) -> Pending
     ensures { λ r. ⌜ r ≡ pending more 128 191 ⌝ }
 {
-    Pending { more, low: 0x80, high: 0xbf }
+    Pending {
+        more,
+        low: 0x80,
+        high: 0xbf,
+    }
 }
 
 // What a character wants after its first byte, if a character may begin with that byte.
@@ -26,13 +29,29 @@ fn first(b: u8) -> Option<Pending>
     match b {
         0..=0x7f => Some(tails(0)),
         0xc2..=0xdf => Some(tails(1)),
-        0xe0 => Some(Pending { more: 2, low: 0xa0, high: 0xbf }),
+        0xe0 => Some(Pending {
+            more: 2,
+            low: 0xa0,
+            high: 0xbf,
+        }),
         0xe1..=0xec => Some(tails(2)),
-        0xed => Some(Pending { more: 2, low: 0x80, high: 0x9f }),
+        0xed => Some(Pending {
+            more: 2,
+            low: 0x80,
+            high: 0x9f,
+        }),
         0xee..=0xef => Some(tails(2)),
-        0xf0 => Some(Pending { more: 3, low: 0x90, high: 0xbf }),
+        0xf0 => Some(Pending {
+            more: 3,
+            low: 0x90,
+            high: 0xbf,
+        }),
         0xf1..=0xf3 => Some(tails(3)),
-        0xf4 => Some(Pending { more: 3, low: 0x80, high: 0x8f }),
+        0xf4 => Some(Pending {
+            more: 3,
+            low: 0x80,
+            high: 0x8f,
+        }),
         _ => None,
     }
 }
@@ -49,21 +68,26 @@ fn step(state: Pending, b: u8) -> Option<Pending>
     Some(tails(state.more - 1))
 }
 
-fn scan(bytes: &[u8]) -> bool
-    ensures { λ r. ⌜ r ≡ accepts (Some (pending 0 128 191)) (now (bytes .entry)) ⌝ }
+// Goes through the bytes, and says what is still wanted behind them: none where no text begins so.
+fn scan(bytes: &[u8]) -> Option<Pending>
+    ensures { λ r. ⌜ Scanned (now (bytes .entry)) r ⌝ }
 {
     let mut state = tails(0);
     for b in bytes {
         match step(state, *b) {
-            None => return false,
+            None => return None,
             Some(next) => state = next,
         }
     }
-    state.more == 0
+    Some(state)
 }
 
+// Text is whole where nothing more is wanted.
 pub fn is_utf8(bytes: &[u8]) -> bool
     ensures { λ r. ⌜ Decides r (Utf8-octets (now (bytes .entry))) ⌝ }
 {
-    scan(bytes)
+    match scan(bytes) {
+        Some(state) => state.more == 0,
+        None => false,
+    }
 }

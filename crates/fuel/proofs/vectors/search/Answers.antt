@@ -19,6 +19,7 @@ returns-then-buffer-ne0 g c =
 
 pub loop-i-again : need.loop-i-again
 loop-i-again g c =
-    let size : c .layout .result .size ≡ g .T·GuestType .size = cc in
-    (omega (arith, mul-add (g .T·GuestType .size) (c .loop-i .-i) 1, c .loop-i .inv .0),
-    c .loop-i .inv .1 ∙ empty (g .T·Vector .named) (g .T·GuestType .size) (g .T·GuestType .align) (g .T·GuestType .parsed) (c .args .memory .now) (c .args .array .count) (c .loop-i .-i) (c .loop-i .ptr) (c .layout .result .size) (c .in-Continue-read .field-0) (c .loop-i-test .taken) (c .in-Continue-read .ensures tt) (sym (ap (λ (r : Region). r .len) (c .buffer-buffer .ensures)) ∙ c .if-buffer-ne0 .left) size)
+    let size : c .layout .result .size ≡ g .T·GuestType .size = cc in (
+      omega (arith, mul-add (g .T·GuestType .size) (c .loop-i .-i) 1, c .loop-i .inv .0),
+      c .loop-i .inv .1 ∙ empty (g .T·Vector .named) (g .T·GuestType .size) (g .T·GuestType .align) (g .T·GuestType .parsed) (c .args .memory .now) (c .args .array .count) (c .loop-i .-i) (c .loop-i .ptr) (c .layout .result .size) (c .in-Continue-read .field-0) (c .loop-i-test .taken) (c .in-Continue-read .ensures tt) (sym (ap (λ (r : Region). r .len) (c .buffer-buffer .ensures)) ∙ c .if-buffer-ne0 .left) size,
+    )

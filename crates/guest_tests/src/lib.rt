@@ -1,0 +1,35 @@
+// Examples on the edges of what a guest hands over: vectors, fuel, paths, records and flag words.
+#[cfg(test)]
+mod paths;
+#[cfg(test)]
+mod records_in_memory;
+#[cfg(test)]
+mod vectors;
+#[cfg(test)]
+mod words;
+
+use errno::Error;
+use fuel::Array;
+use fuel::Fuel;
+use fuel::first_non_empty;
+use fuel::read_string;
+use memory::Region;
+use records::Iovec;
+use records::IovecVector;
+
+// The answer of a search, and the fuel that it leaves.
+fn searched(fuel: u64, memory: &[u8], array: Array) -> (Result<Region, Error>, u64) {
+    let mut fuel = Fuel { remaining: fuel };
+    let answer = first_non_empty::<Iovec>(&mut fuel, memory, array);
+    (answer, fuel.remaining)
+}
+
+// The length of a path, or why it is refused, and the fuel that is left.
+fn path_read(fuel: u64, memory: &[u8], path: Region) -> (Result<usize, Error>, u64) {
+    let mut fuel = Fuel { remaining: fuel };
+    let answer = match read_string(&mut fuel, memory, path) {
+        Ok(bytes) => Ok(bytes.len()),
+        Err(error) => Err(error),
+    };
+    (answer, fuel.remaining)
+}
