@@ -15,9 +15,26 @@ use std::io;
 
 const MEMORY: usize = 64;
 
+const FUEL: u64 = 64;
+
+// Two vectors, of which the second names what the call is about: a path and a byte that is not UTF-8.
 const VECTORS: Array = Array { ptr: 8, count: 2 };
 
-const STITCHES: Region = Region { ptr: 40, len: 10 };
+const SECOND: u32 = 16;
+
+const BYTES: &[u8; 10] = b"crest.dst\xff";
+
+const START: usize = 40;
+
+const END: usize = 50;
+
+const BUFFER: Region = Region { ptr: 40, len: 10 };
+
+const PATH: Region = Region { ptr: 40, len: 9 };
+
+const NOTHING: Ciovec = Ciovec { buf: 0, buf_len: 0 };
+
+const MISALIGNED: Array = Array { ptr: 2, count: 1 };
 
 fn lay_vector(rt: &impl Print, memory: &mut [u8], ptr: u32, vector: Ciovec) -> io::Result<()> {
     let (buf, buf_len) = (vector.buf, vector.buf_len);
@@ -68,40 +85,31 @@ fn check_path(rt: &impl Print, fuel: &mut Fuel, memory: &[u8], path: Region) -> 
     }
 }
 
-// Two vectors, the first of them empty, and the bytes that the second names: a path and one byte that is no UTF-8.
 fn lay_out(rt: &impl Print, memory: &mut [u8; MEMORY]) -> io::Result<()> {
-    memory[40..50].copy_from_slice(b"crest.dst\xff");
-    lay_vector(rt, memory, VECTORS.ptr, Ciovec { buf: 0, buf_len: 0 })?;
+    memory[START..END].copy_from_slice(BYTES);
+    lay_vector(rt, memory, VECTORS.ptr, NOTHING)?;
     lay_vector(
         rt,
         memory,
-        VECTORS.ptr + 8,
+        SECOND,
         Ciovec {
-            buf: STITCHES.ptr,
-            buf_len: STITCHES.len,
+            buf: BUFFER.ptr,
+            buf_len: BUFFER.len,
         },
     )
 }
 
 fn make_calls(rt: &impl Print, memory: &[u8]) -> io::Result<()> {
-    let mut fuel = Fuel { remaining: 64 };
+    let mut fuel = Fuel { remaining: FUEL };
     find_buffer(rt, &mut fuel, memory, VECTORS)?;
-    check_path(
-        rt,
-        &mut fuel,
-        memory,
-        Region {
-            ptr: STITCHES.ptr,
-            len: 9,
-        },
-    )?;
-    check_path(rt, &mut fuel, memory, STITCHES)?;
-    find_buffer(rt, &mut fuel, memory, Array { ptr: 2, count: 1 })?;
+    check_path(rt, &mut fuel, memory, PATH)?;
+    check_path(rt, &mut fuel, memory, BUFFER)?;
+    find_buffer(rt, &mut fuel, memory, MISALIGNED)?;
     find_buffer(rt, &mut fuel, memory, VECTORS)
 }
 
 fn main(rt: LibcRuntime) -> io::Result<()> {
-    let mut memory = [0u8; MEMORY];
+    let mut memory = [0; MEMORY];
     lay_out(&rt, &mut memory)?;
     make_calls(&rt, &memory)
 }

@@ -39,7 +39,7 @@ impl Errno {
 }
 
 // The codes with which a host refuses.
-#[derive(Clone, Copy, PartialEq, Eq, Debug)]
+#[derive(Clone, Copy)]
 pub enum ErrorCode {
     Access,
     BadDescriptor,

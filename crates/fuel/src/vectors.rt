@@ -18,7 +18,7 @@ pub struct Array {
 }
 
 // Reads the vectors in order, up to the first that is not empty.
-fn search<T: Vector + Drop>(memory: &[u8], array: Array) -> Result<Option<Region>, GuestError>
+fn find<T: Vector + Drop>(memory: &[u8], array: Array) -> Result<Option<Region>, GuestError>
     ensures { λ r. ⌜ r ≡ first (T·Vector .named) (vectors (T·GuestType .size) (T·GuestType .align) (T·GuestType .parsed) (now (memory .entry)) (array .count) (array .ptr)) ⌝ }
 {
     let size = T::layout().size as u64;
@@ -42,7 +42,7 @@ pub fn first_non_empty<T: Vector + Drop>(
     ensures { λ r. ⌜ Is (firstNonEmpty (T·GuestType .size) (T·GuestType .align) (T·GuestType .parsed) (T·Vector .named) (now (memory .entry)) array (now (fuel .entry) .remaining)) r (now (fuel .exit) .remaining) ⌝ }
 {
     fuel.consume_fuel_for_array::<T>(array.count)?;
-    let Some(buffer) = search::<T>(memory, array)? else {
+    let Some(buffer) = find::<T>(memory, array)? else {
         return Ok(Region { ptr: 0, len: 0 });
     };
     fuel.consume_fuel(buffer.len as u64)?;

@@ -16,9 +16,17 @@ use fuel::read_string;
 use memory::Region;
 use records::Iovec;
 use records::IovecVector;
+use types::Fdflags;
+use types::FdflagsTryFrom;
+use types::Lookupflags;
+use types::LookupflagsTryFrom;
+use types::Oflags;
+use types::OflagsTryFrom;
+use types::Whence;
+use types::WhenceTryFrom;
 
-// The answer of a search, and the fuel that it leaves.
-fn searched(fuel: u64, memory: &[u8], array: Array) -> (Result<Region, Error>, u64) {
+// The buffer of a vector call, and the fuel that is left.
+fn buffer_found(fuel: u64, memory: &[u8], array: Array) -> (Result<Region, Error>, u64) {
     let mut fuel = Fuel { remaining: fuel };
     let answer = first_non_empty::<Iovec>(&mut fuel, memory, array);
     (answer, fuel.remaining)
@@ -32,4 +40,14 @@ fn path_read(fuel: u64, memory: &[u8], path: Region) -> (Result<usize, Error>, u
         Err(error) => Err(error),
     };
     (answer, fuel.remaining)
+}
+
+// Whether a word passes as whence, fdflags, oflags and lookupflags.
+fn passed(word: u32) -> [bool; 4] {
+    [
+        Whence::try_from(word).is_ok(),
+        Fdflags::try_from(word).is_ok(),
+        Oflags::try_from(word).is_ok(),
+        Lookupflags::try_from(word).is_ok(),
+    ]
 }

@@ -1,5 +1,5 @@
-// The search for the first non-empty vector, at the ends of memory and of fuel.
-use crate::searched;
+// The first non-empty vector, looked for at the ends of memory and of fuel.
+use crate::buffer_found;
 use errno::Errno;
 use errno::Error;
 use errno::ErrorDebug as _;
@@ -77,7 +77,7 @@ fn first_non_empty_at_the_edges() -> Result<(), Fail> {
     ];
     for (bytes, ptr, count, fuel, expected, rest) in rows {
         check(bytes <= 25)?;
-        let (answer, left) = searched(fuel, &MEMORY[0..bytes], Array { ptr, count });
+        let (answer, left) = buffer_found(fuel, &MEMORY[0..bytes], Array { ptr, count });
         check_eq(answer, expected)?;
         check_eq(left, rest)?;
     }

@@ -1,45 +1,38 @@
 // The words that a guest passes: the numbers and bits of witx, and one bit too many.
+use crate::passed;
 use errno::Errno;
 use errno::ErrnoFromErrorCode;
 use errno::ErrorCode;
 use std::test::*;
 use types::Fdflags;
-use types::FdflagsTryFrom;
 use types::Lookupflags;
-use types::LookupflagsTryFrom;
 use types::Oflags;
-use types::OflagsTryFrom;
 use types::Rights;
 use types::RightsTryFrom;
-use types::Whence;
-use types::WhenceTryFrom;
 
+// A row: a word, and whether it passes as whence, fdflags, oflags and lookupflags.
 #[test]
-fn whence_above_two_is_inval() -> Result<(), Fail> {
-    check(matches!(Whence::try_from(0), Ok(Whence::Set)))?;
-    check(matches!(Whence::try_from(1), Ok(Whence::Cur)))?;
-    check(matches!(Whence::try_from(2), Ok(Whence::End)))?;
-    for word in [3, 255, 256, 258, u32::MAX] {
-        check(matches!(Whence::try_from(word), Err(Errno::Inval)))?;
+fn words_that_pass() -> Result<(), Fail> {
+    let rows = [
+        (0, [true, true, true, true]),
+        (1, [true, true, true, true]),
+        (2, [true, true, true, false]),
+        (3, [false, true, true, false]),
+        (15, [false, true, true, false]),
+        (16, [false, true, false, false]),
+        (31, [false, true, false, false]),
+        (32, [false, false, false, false]),
+        (256, [false, false, false, false]),
+        (0x1_0000, [false, false, false, false]),
+        (0x8000_0001, [false, false, false, false]),
+    ];
+    for (word, passes) in rows {
+        check_eq(passed(word), passes)?;
+    }
+    for (word, passes) in [(0x3fff_ffff, true), (0x4000_0000, false), (1 << 63, false)] {
+        check_eq(Rights::try_from(word).is_ok(), passes)?;
     }
     Ok(())
-}
-
-#[test]
-fn undefined_bits_are_inval() -> Result<(), Fail> {
-    check(matches!(Fdflags::try_from(31), Ok(Fdflags(31))))?;
-    check(matches!(Oflags::try_from(15), Ok(Oflags(15))))?;
-    check(matches!(Lookupflags::try_from(1), Ok(Lookupflags(1))))?;
-    check(matches!(Rights::try_from(0x3fff_ffff), Ok(Rights(0x3fff_ffff))))?;
-    for word in [32, 33, 0x8000, 0x1_0000, 0x8000_0000] {
-        check(Fdflags::try_from(word).is_err())?;
-        check(Oflags::try_from(word).is_err())?;
-        check(Lookupflags::try_from(word).is_err())?;
-    }
-    check(Oflags::try_from(16).is_err())?;
-    check(Lookupflags::try_from(2).is_err())?;
-    check(Rights::try_from(0x4000_0000).is_err())?;
-    check(Rights::try_from(0x8000_0000_0000_0000).is_err())
 }
 
 #[test]

@@ -18,9 +18,8 @@ pub impl From<GuestError> for Error as ErrorFromGuestError {
 
     fn from(fault: GuestError) -> Error {
         match fault {
-            GuestError::PtrOutOfBounds | GuestError::PtrNotAligned => Error::Trap(
-                TrapCause::Pointer,
-            ),
+            GuestError::PtrOutOfBounds => Error::Trap(TrapCause::Pointer),
+            GuestError::PtrNotAligned => Error::Trap(TrapCause::Pointer),
             GuestError::InvalidUtf8 => Error::Errno(Errno::Ilseq),
         }
     }

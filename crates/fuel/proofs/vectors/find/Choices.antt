@@ -1,7 +1,7 @@
 use mathlib.Core.Path.{_≡_}
 use Prim.Native.Nat.{_+_, _-_, _*_}
 use Rattle.fuel.specs.Vectors.{first, vectors}
-use Rattle.fuel.proofs.vectors.search.Given as given
+use Rattle.fuel.proofs.vectors.find.Given as given
 
 abbrev pub Inv-loop-i : given.InvT-loop-i
 Inv-loop-i g l =

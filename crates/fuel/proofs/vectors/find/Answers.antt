@@ -5,7 +5,7 @@ use native.Mathlib.Omega.{arith}
 use Rattle.std.proofs.shelf.Results.{err-from-errBy}
 use Rattle.memory.specs.declared.Region.{Region}
 use Rattle.fuel.proofs.Steps.{faulty, filled, empty}
-use Rattle.fuel.proofs.vectors.search.Needs as need
+use Rattle.fuel.proofs.vectors.find.Needs as need
 
 pub returns-in-Break-read : need.returns-in-Break-read
 returns-in-Break-read g c =
