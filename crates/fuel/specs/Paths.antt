@@ -2,21 +2,19 @@
 use mathlib.Core.Path.{_≡_}
 use mathlib.Core.Bool.{cond}
 use mathlib.Core.List.{List}
-use Prim.Native.Nat.{ℕ, _+_}
-use lib.Dec.{leb}
-use lib.ListN.{length}
+use Prim.Native.Nat.{ℕ}
 use Rattle.std.specs.declared.result.Result.{Result}
 use Rattle.std.specs.declared.result.Result.the-variants.{Ok, Err}
 use Rattle.errno.specs.declared.Error.{Error}
 use Rattle.memory.specs.declared.GuestError.the-variants.{PtrOutOfBounds, InvalidUtf8}
 use Rattle.memory.specs.declared.Region.{Region}
-use Rattle.memory.specs.Ranges.{bytes-at, told}
+use Rattle.memory.specs.Ranges.{bytes-at, in-memory, told}
 use Rattle.utf8.specs.Grammar.{Utf8-octets}
 use Rattle.fuel.specs.Charges.{Outcome, charge}
 
 -- the bytes of a path are charged for, and then its range is checked
 abbrev pub found : List ℕ → Region → ℕ → Outcome (List ℕ)
-found memory path fuel = charge (path .len) fuel (λ rest. (cond (leb (path .ptr + path .len) (length memory)) (Ok (bytes-at memory (path .ptr) (path .len))) (Err (told PtrOutOfBounds)), rest))
+found memory path fuel = charge (path .len) fuel (λ rest. (cond (in-memory memory (path .ptr) (path .len)) (Ok (bytes-at memory (path .ptr) (path .len))) (Err (told PtrOutOfBounds)), rest))
 
 -- what was found is answered exactly if it is UTF-8
 abbrev pub Checked : Result (List ℕ) Error → Result (List ℕ) Error → Type 0

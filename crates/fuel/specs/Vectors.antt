@@ -31,5 +31,5 @@ bought (Err fault) fuel = (Err (told fault), fuel)
 bought (Ok None) fuel = (Ok (record { ptr = 0; len = 0 }), fuel)
 bought (Ok (Some buffer)) fuel = charge (buffer .len) fuel (λ rest. (Ok buffer, rest))
 
-abbrev pub firstNonEmpty : {X : Type 0} → ℕ → ℕ → (List ℕ → X) → (X → Region) → List ℕ → Array → ℕ → Outcome Region
-firstNonEmpty size align parsed named memory array fuel = charge (size * array .count) fuel (bought (first named (vectors size align parsed memory (array .count) (array .ptr))))
+abbrev pub first-non-empty : {X : Type 0} → ℕ → ℕ → (List ℕ → X) → (X → Region) → List ℕ → Array → ℕ → Outcome Region
+first-non-empty size align parsed named memory array fuel = charge (size * array .count) fuel (bought (first named (vectors size align parsed memory (array .count) (array .ptr))))

@@ -1,7 +1,4 @@
 // A path that a guest hands over.
-ghost use mathlib.Core.Path.{_≡_};
-ghost use mathlib.Core.Bool.{Bool};
-ghost use Rattle.std.specs.Orderings.{Decides};
 ghost use Rattle.std.specs.declared.result.Result.the-variants.{Ok, Err};
 ghost use Rattle.fuel.specs.Charges.{Is};
 ghost use Rattle.fuel.specs.Paths.{ReadString, found};

@@ -1,8 +1,7 @@
 // The buffer of a vector call: the first of its vectors that is not empty.
 ghost use mathlib.Core.Path.{_≡_};
-ghost use Prim.Native.Nat.{_*_, _+_, _≤_};
 ghost use Rattle.fuel.specs.Charges.{Is};
-ghost use Rattle.fuel.specs.Vectors.{first, firstNonEmpty, vectors};
+ghost use Rattle.fuel.specs.Vectors.{first, first-non-empty, vectors};
 use crate::Fuel;
 use errno::Error;
 use memory::ErrorFromGuestError;
@@ -39,7 +38,7 @@ pub fn first_non_empty<T: Vector + Drop>(
     memory: &[u8],
     array: Array,
 ) -> Result<Region, Error>
-    ensures { λ r. ⌜ Is (firstNonEmpty (T·GuestType .size) (T·GuestType .align) (T·GuestType .parsed) (T·Vector .named) (now (memory .entry)) array (now (fuel .entry) .remaining)) r (now (fuel .exit) .remaining) ⌝ }
+    ensures { λ r. ⌜ Is (first-non-empty (T·GuestType .size) (T·GuestType .align) (T·GuestType .parsed) (T·Vector .named) (now (memory .entry)) array (now (fuel .entry) .remaining)) r (now (fuel .exit) .remaining) ⌝ }
 {
     fuel.consume_fuel_for_array::<T>(array.count)?;
     let Some(buffer) = find::<T>(memory, array)? else {

@@ -11,8 +11,6 @@ use records::Iovec;
 use records::IovecGuestType;
 use std::test::*;
 use types::Filetype;
-use types::FiletypeDebug;
-use types::FiletypePartialEq;
 
 #[test]
 fn vectors_lie_as_witx_says() -> Result<(), Fail> {
@@ -121,8 +119,8 @@ fn a_dirent_lies_as_witx_says() -> Result<(), Fail> {
         (back.d_next, back.d_ino, back.d_namlen),
         (entry.d_next, entry.d_ino, entry.d_namlen),
     )?;
-    check_eq(back.d_type, Filetype::SymbolicLink)?;
+    check_eq(back.d_type.number(), 7)?;
     // A type that is none of ours.
     memory[20] = 5;
-    check_eq(Dirent::read(&memory, 0)?.d_type, Filetype::Unknown)
+    check_eq(Dirent::read(&memory, 0)?.d_type.number(), 0)
 }

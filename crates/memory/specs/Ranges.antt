@@ -1,5 +1,5 @@
 -- A guest's memory, and what may be named in it.
-use mathlib.Core.Bool.{cond}
+use mathlib.Core.Bool.{Bool, cond}
 use mathlib.Core.List.{List, _++_}
 use Prim.Native.Nat.{ℕ, _+_}
 use lib.Dec.{leb}
@@ -14,7 +14,7 @@ use Rattle.memory.specs.declared.GuestError.{GuestError}
 use Rattle.memory.specs.declared.GuestError.the-variants.{PtrOutOfBounds, PtrNotAligned, InvalidUtf8}
 use Rattle.memory.specs.declared.Region.{Region}
 
--- what the call answers for each fault of the guest's
+-- what a call answers for each fault
 abbrev pub told : GuestError → Error
 told PtrOutOfBounds = Trap Pointer
 told PtrNotAligned = Trap Pointer
@@ -28,6 +28,9 @@ bytes-at memory ptr n = take n (drop ptr memory)
 abbrev pub with-bytes : List ℕ → ℕ → List ℕ → List ℕ
 with-bytes memory ptr bs = take ptr memory ++ bs ++ drop (ptr + length bs) memory
 
--- a region ends behind the memory, also an empty one that begins behind it, or is as it should be
+-- n bytes from an address on end within the memory; none do from an address behind its end
+abbrev pub in-memory : List ℕ → ℕ → ℕ → Bool
+in-memory memory ptr n = leb (ptr + n) (length memory)
+
 abbrev pub checked : List ℕ → Region → Result (Unit {0}) GuestError
-checked memory region = cond (leb (region .ptr + region .len) (length memory)) (Ok tt) (Err PtrOutOfBounds)
+checked memory region = cond (in-memory memory (region .ptr) (region .len)) (Ok tt) (Err PtrOutOfBounds)

@@ -2,13 +2,12 @@
 use mathlib.Core.Path.{_≡_}
 use mathlib.Core.Bool.{cond}
 use mathlib.Core.List.{List, [], _∷_, _++_}
-use Prim.Native.Nat.{ℕ, zero, suc, _+_, _*_, _/_, _%_, _^_, _<_}
-use lib.Dec.{eqb, leb}
-use lib.ListN.{length, take, drop}
+use Prim.Native.Nat.{ℕ, zero, suc, _+_, _*_, _/_, _%_}
+use lib.Dec.{eqb}
 use Rattle.std.specs.declared.result.Result.{Result}
 use Rattle.std.specs.declared.result.Result.the-variants.{Ok, Err}
 use Rattle.types.specs.Numbers.{filetype-number, filetype-of}
-use Rattle.memory.specs.Ranges.{bytes-at, with-bytes}
+use Rattle.memory.specs.Ranges.{bytes-at, in-memory, with-bytes}
 use Rattle.memory.specs.declared.GuestError.{GuestError}
 use Rattle.memory.specs.declared.GuestError.the-variants.{PtrOutOfBounds, PtrNotAligned}
 use Rattle.records.specs.declared.ciovec.Ciovec.{Ciovec}
@@ -49,17 +48,17 @@ dirent-bytes d = entry-bytes (d .«d_next») (d .«d_ino») (d .«d_namlen») (f
 abbrev pub dirent-of : List ℕ → Dirent
 dirent-of bs = record { «d_next» = field bs 0 8; «d_ino» = field bs 8 8; «d_namlen» = field bs 16 4; «d_type» = filetype-of (field bs 20 1) }
 
--- where an address is aligned and that many bytes from it on end within the memory
+-- something is at an address that is aligned and from which on so many bytes end within the memory
 abbrev pub placed : {X : Type 0} → ℕ → ℕ → List ℕ → ℕ → X → Result X GuestError
-placed size align memory ptr x = cond (eqb (ptr % align) 0) (cond (leb (ptr + size) (length memory)) (Ok x) (Err PtrOutOfBounds)) (Err PtrNotAligned)
+placed size align memory ptr x = cond (eqb (ptr % align) 0) (cond (in-memory memory ptr size) (Ok x) (Err PtrOutOfBounds)) (Err PtrNotAligned)
 
 abbrev pub read-at : {X : Type 0} → ℕ → ℕ → (List ℕ → X) → List ℕ → ℕ → Result X GuestError
 read-at size align parsed memory ptr = placed size align memory ptr (parsed (bytes-at memory ptr size))
 
 -- a refused write changes nothing
-abbrev pub Left : Result (Unit {0}) GuestError → List ℕ → List ℕ → List ℕ → Type 0
-Left (Ok done) before changed after = after ≡ changed
-Left (Err e) before changed after = after ≡ before
+abbrev pub Leaves : Result (Unit {0}) GuestError → List ℕ → List ℕ → List ℕ → Type 0
+Leaves (Ok done) before changed after = after ≡ changed
+Leaves (Err e) before changed after = after ≡ before
 
 abbrev pub WriteAt : ℕ → ℕ → List ℕ → List ℕ → ℕ → Result (Unit {0}) GuestError → List ℕ → Type 0
-WriteAt size align bs memory ptr r after = (r ≡ placed size align memory ptr tt) × Left r memory (with-bytes memory ptr bs) after
+WriteAt size align bs memory ptr r after = (r ≡ placed size align memory ptr tt) × Leaves r memory (with-bytes memory ptr bs) after

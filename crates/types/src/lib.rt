@@ -4,8 +4,6 @@ mod flags;
 mod whence;
 
 pub use filetype::Filetype;
-pub use filetype::FiletypeDebug;
-pub use filetype::FiletypePartialEq;
 pub use flags::Fdflags;
 pub use flags::FdflagsTryFrom;
 pub use flags::Lookupflags;
@@ -18,9 +16,9 @@ pub use whence::Whence;
 pub use whence::WhenceTryFrom;
 
 // A descriptor number, as a guest knows an opening.
-#[derive(Clone, Copy, PartialEq, Eq)]
+#[derive(Clone, Copy)]
 pub struct Fd(pub u32);
 
 // A host's name for something that it holds open. No guest ever sees one.
-#[derive(Clone, Copy, PartialEq, Eq)]
+#[derive(Clone, Copy)]
 pub struct Handle(pub u32);
