@@ -15,6 +15,8 @@ use std::io;
 
 const MEMORY: usize = 64;
 
+const BLANK: [u8; MEMORY] = [0; MEMORY];
+
 const FUEL: u64 = 64;
 
 // Two vectors, of which the second names what the call is about: a path and a byte that is not UTF-8.
@@ -37,9 +39,12 @@ const NOTHING: Ciovec = Ciovec { buf: 0, buf_len: 0 };
 const MISALIGNED: Array = Array { ptr: 2, count: 1 };
 
 fn lay_vector(rt: &impl Print, memory: &mut [u8], ptr: u32, vector: Ciovec) -> io::Result<()> {
-    let (buf, buf_len) = (vector.buf, vector.buf_len);
     match vector.write(memory, ptr as u64) {
-        Ok(()) => println!(rt, "a vector at {ptr} names {buf_len} bytes at {buf}"),
+        Ok(()) => println!(
+            rt,
+            "a vector at {ptr} names {} bytes at {}",
+            vector.buf_len, vector.buf,
+        ),
         Err(fault) => println!(rt, "no vector at {ptr}: {fault:?}"),
     }
 }
@@ -77,7 +82,7 @@ fn check_path(rt: &impl Print, fuel: &mut Fuel, memory: &[u8], path: Region) -> 
     match read_string(fuel, memory, path) {
         Ok(bytes) => println!(
             rt,
-            "  {} bytes of UTF-8, fuel left {}",
+            "  text of {} bytes, fuel left {}",
             bytes.len(),
             fuel.remaining
         ),
@@ -109,7 +114,7 @@ fn make_calls(rt: &impl Print, memory: &[u8]) -> io::Result<()> {
 }
 
 fn main(rt: LibcRuntime) -> io::Result<()> {
-    let mut memory = [0; MEMORY];
+    let mut memory = BLANK;
     lay_out(&rt, &mut memory)?;
     make_calls(&rt, &memory)
 }
