@@ -5,7 +5,6 @@ use fuel::Array;
 use fuel::Fuel;
 use fuel::first_non_empty;
 use fuel::read_string;
-use memory::GuestErrorDebug;
 use memory::Region;
 use records::Ciovec;
 use records::CiovecGuestType;
@@ -45,7 +44,7 @@ fn lay_vector(rt: &impl Print, memory: &mut [u8], ptr: u32, vector: Ciovec) -> i
             "a vector at {ptr} names {} bytes at {}",
             vector.buf_len, vector.buf,
         ),
-        Err(fault) => println!(rt, "no vector at {ptr}: {fault:?}"),
+        Err(_) => println!(rt, "no vector at {ptr}"),
     }
 }
 

@@ -4,7 +4,7 @@ ghost use Rattle.errno.specs.Numbers.{errno-number, errno-of};
 ghost use Rattle.errno.specs.declared.Error.the-variants.{Errno as ToldErrno};
 
 // The errnos that the calls answer.
-#[derive(Clone, Copy, PartialEq, Eq, Debug)]
+#[derive(Clone, Copy)]
 pub enum Errno {
     Success = 0,
     Acces = 2,
@@ -79,13 +79,13 @@ pub impl From<ErrorCode> for Errno as ErrnoFromErrorCode {
 }
 
 // Why a guest is stopped: it named memory that it does not have, or a host could not let a handle go.
-#[derive(Clone, Copy, PartialEq, Eq, Debug)]
+#[derive(Clone, Copy)]
 pub enum TrapCause {
     Pointer,
     Drop,
 }
 
-#[derive(Clone, Copy, PartialEq, Eq, Debug)]
+#[derive(Clone, Copy)]
 pub enum Error {
     Errno(Errno),
     Trap(TrapCause),

@@ -1,15 +1,16 @@
 // Paths: the boundary sequences of RFC 3629, and paths at the ends of memory and of fuel.
-use errno::Error;
+use crate::Told;
+use crate::told;
 use fuel::Fuel;
 use fuel::read_string;
 use memory::Region;
 
-// The length of a path, or why it is refused, and the fuel that is left.
-fn path_read(fuel: u64, memory: &[u8], path: Region) -> (Result<usize, Error>, u64) {
+// The length of a path, or what is told where it is refused, and the fuel that is left.
+fn path_read(fuel: u64, memory: &[u8], path: Region) -> (Result<usize, Told>, u64) {
     let mut fuel = Fuel { remaining: fuel };
     let answer = match read_string(&mut fuel, memory, path) {
         Ok(bytes) => Ok(bytes.len()),
-        Err(error) => Err(error),
+        Err(error) => Err(told(error)),
     };
     (answer, fuel.remaining)
 }
@@ -17,10 +18,9 @@ fn path_read(fuel: u64, memory: &[u8], path: Region) -> (Result<usize, Error>, u
 #[cfg(test)]
 mod tests {
     use super::*;
-    use errno::Errno;
-    use errno::ErrorDebug as _;
-    use errno::ErrorPartialEq;
-    use errno::TrapCause;
+    use crate::ILSEQ;
+    use crate::NOMEM;
+    use crate::POINTER;
     use std::test::*;
     use utf8::is_utf8;
 
@@ -66,12 +66,6 @@ mod tests {
         }
         Ok(())
     }
-
-    const POINTER: Error = Error::Trap(TrapCause::Pointer);
-
-    const NOMEM: Error = Error::Errno(Errno::Nomem);
-
-    const ILSEQ: Error = Error::Errno(Errno::Ilseq);
 
     // A row: a path's address and length, fuel; the answer and the fuel left.
     #[test]

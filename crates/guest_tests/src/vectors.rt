@@ -1,37 +1,32 @@
 // The first non-empty vector, looked for at the ends of memory and of fuel.
-use errno::Error;
+use crate::Told;
+use crate::told;
 use fuel::Array;
 use fuel::Fuel;
 use fuel::first_non_empty;
-use memory::Region;
 use records::Iovec;
 use records::IovecVector;
 
-// The buffer of a vector call, and the fuel that is left.
-fn buffer_found(fuel: u64, memory: &[u8], array: Array) -> (Result<Region, Error>, u64) {
+// The buffer of a vector call, as an address and a length, and the fuel that is left.
+fn buffer_found(fuel: u64, memory: &[u8], array: Array) -> (Result<(u32, u32), Told>, u64) {
     let mut fuel = Fuel { remaining: fuel };
-    let answer = first_non_empty::<Iovec>(&mut fuel, memory, array);
+    let answer = match first_non_empty::<Iovec>(&mut fuel, memory, array) {
+        Ok(buffer) => Ok((buffer.ptr, buffer.len)),
+        Err(error) => Err(told(error)),
+    };
     (answer, fuel.remaining)
 }
 
 #[cfg(test)]
 mod tests {
     use super::*;
-    use errno::Errno;
-    use errno::ErrorDebug as _;
-    use errno::ErrorPartialEq;
-    use errno::TrapCause;
-    use memory::RegionDebug;
-    use memory::RegionPartialEq;
+    use crate::NOMEM;
+    use crate::POINTER;
     use std::test::*;
 
-    const EMPTY: Region = Region { ptr: 0, len: 0 };
+    const EMPTY: (u32, u32) = (0, 0);
 
-    const FOUND: Region = Region { ptr: 7, len: 1 };
-
-    const POINTER: Error = Error::Trap(TrapCause::Pointer);
-
-    const NOMEM: Error = Error::Errno(Errno::Nomem);
+    const FOUND: (u32, u32) = (7, 1);
 
     // A row: so many bytes of the memory, an array's address and count, fuel; the answer and the fuel left.
     #[test]

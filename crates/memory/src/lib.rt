@@ -6,7 +6,7 @@ use errno::Error;
 use errno::TrapCause;
 
 // What is wrong with what a guest named in its memory.
-#[derive(Clone, Copy, PartialEq, Eq, Debug)]
+#[derive(Clone, Copy)]
 pub enum GuestError {
     PtrOutOfBounds,
     PtrNotAligned,
@@ -26,7 +26,7 @@ pub impl From<GuestError> for Error as ErrorFromGuestError {
 }
 
 // `len` bytes from an address on.
-#[derive(Clone, Copy, PartialEq, Eq, Debug)]
+#[derive(Clone, Copy)]
 pub struct Region {
     pub ptr: u32,
     pub len: u32,
