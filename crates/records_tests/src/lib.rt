@@ -1,4 +1,4 @@
-// Records as witx lays them out, byte for byte, and what a refused write leaves.
+// Records as witx lays them out, byte for byte.
 use records::Ciovec;
 use records::CiovecGuestType;
 use records::Dirent;
@@ -29,7 +29,6 @@ fn dirent_at(memory: &[u8], ptr: u64) -> Option<(u64, u64, u32, u8)> {
 #[cfg(test)]
 mod tests {
     use super::*;
-    use memory::GuestError;
     use records::Iovec;
     use records::IovecGuestType;
     use std::test::*;
@@ -49,23 +48,6 @@ mod tests {
         )?;
         check_eq(vector_at(&memory, 4), Some((0x0403_0201, 0x0807_0605)))?;
         check_eq(vector_at(&memory, 12), None)
-    }
-
-    // Not aligned; ends behind the memory; far behind it, where the sum would wrap.
-    #[test]
-    fn a_refused_write_leaves_the_memory() -> Result<(), Fail> {
-        let mut memory = [0xaau8; 16];
-        let vector = Iovec { buf: 1, buf_len: 2 };
-        check(matches!(vector.write(&mut memory, 6), Err(GuestError::PtrNotAligned)))?;
-        check(matches!(
-            vector.write(&mut memory, 12),
-            Err(GuestError::PtrOutOfBounds)
-        ))?;
-        check(matches!(
-            vector.write(&mut memory, 0xffff_ffff_ffff_fffc),
-            Err(GuestError::PtrOutOfBounds)
-        ))?;
-        check_eq(memory, [0xaa; 16])
     }
 
     #[test]

@@ -54,30 +54,22 @@ mod tests {
     }
 
     #[test]
-    fn bits_have_the_names_of_witx() -> Result<(), Fail> {
+    fn flags_have_the_names_of_witx() -> Result<(), Fail> {
         let fdflags = [
-            Fdflags::APPEND,
-            Fdflags::DSYNC,
-            Fdflags::NONBLOCK,
-            Fdflags::RSYNC,
-            Fdflags::SYNC,
+            Fdflags::APPEND.0,
+            Fdflags::DSYNC.0,
+            Fdflags::NONBLOCK.0,
+            Fdflags::RSYNC.0,
+            Fdflags::SYNC.0,
         ];
-        let mut bit = 1;
-        for flag in fdflags {
-            check_eq(flag.0, bit)?;
-            bit = bit.wrapping_mul(2);
-        }
+        check_eq(fdflags, [1, 2, 4, 8, 16])?;
         let oflags = [
-            Oflags::CREAT,
-            Oflags::DIRECTORY,
-            Oflags::EXCL,
-            Oflags::TRUNC,
+            Oflags::CREAT.0,
+            Oflags::DIRECTORY.0,
+            Oflags::EXCL.0,
+            Oflags::TRUNC.0,
         ];
-        let mut bit = 1;
-        for flag in oflags {
-            check_eq(flag.0, bit)?;
-            bit = bit.wrapping_mul(2);
-        }
+        check_eq(oflags, [1, 2, 4, 8])?;
         check_eq(Lookupflags::SYMLINK_FOLLOW.0, 1)
     }
 
