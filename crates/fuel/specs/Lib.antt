@@ -1,3 +1,2 @@
 pub mod Charges
-pub mod Paths
 pub mod Vectors

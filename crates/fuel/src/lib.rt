@@ -1,12 +1,10 @@
-// What a guest pays for with its fuel: its vectors, the buffer that they name, and its paths.
-mod path;
+// What a guest pays for with its fuel: its vectors and the buffer that they name.
 mod vectors;
 
 ghost use Prim.Native.Nat.{_*_};
 ghost use Rattle.fuel.specs.Charges.{Is, charged};
 use errno::Errno;
 use errno::Error;
-pub use path::read_string;
 use records::GuestType;
 pub use vectors::Array;
 pub use vectors::first_non_empty;

@@ -2,8 +2,8 @@
 use crate::Told;
 use crate::told;
 use fuel::Fuel;
-use fuel::read_string;
 use memory::Region;
+use path::read_string;
 
 // The length of a path, or what is told where it is refused, and the fuel that is left.
 fn path_read(fuel: u64, memory: &[u8], path: Region) -> (Result<usize, Told>, u64) {

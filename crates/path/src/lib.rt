@@ -1,9 +1,9 @@
 // A path that a guest hands over.
 ghost use Rattle.std.specs.declared.result.Result.the-variants.{Ok, Err};
 ghost use Rattle.fuel.specs.Charges.{Is};
-ghost use Rattle.fuel.specs.Paths.{ReadString, found};
-use crate::Fuel;
+ghost use Rattle.path.specs.Paths.{ReadString, found};
 use errno::Error;
+use fuel::Fuel;
 use memory::ErrorFromGuestError;
 use memory::GuestError;
 use memory::Region;
