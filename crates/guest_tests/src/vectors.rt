@@ -4,14 +4,15 @@ use crate::told;
 use fuel::Array;
 use fuel::Fuel;
 use fuel::first_non_empty;
+use memory::Region;
 use records::Iovec;
 use records::IovecVector;
 
-// The buffer of a vector call, as an address and a length, and the fuel that is left.
-fn buffer_found(fuel: u64, memory: &[u8], array: Array) -> (Result<(u32, u32), Told>, u64) {
+// The buffer of a vector call, and the fuel that is left.
+fn buffer_found(fuel: u64, memory: &[u8], array: Array) -> (Result<Region, Told>, u64) {
     let mut fuel = Fuel { remaining: fuel };
     let answer = match first_non_empty::<Iovec>(&mut fuel, memory, array) {
-        Ok(buffer) => Ok((buffer.ptr, buffer.len)),
+        Ok(buffer) => Ok(buffer),
         Err(error) => Err(told(error)),
     };
     (answer, fuel.remaining)
@@ -60,7 +61,11 @@ mod tests {
         for (bytes, ptr, count, fuel, expected, rest) in rows {
             check(bytes <= 25)?;
             let (answer, left) = buffer_found(fuel, &memory[0..bytes], Array { ptr, count });
-            check_eq(answer, expected)?;
+            let named = match answer {
+                Ok(buffer) => Ok((buffer.ptr, buffer.len)),
+                Err(told) => Err(told),
+            };
+            check_eq(named, expected)?;
             check_eq(left, rest)?;
         }
         Ok(())

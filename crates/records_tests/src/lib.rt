@@ -5,10 +5,10 @@ use records::Dirent;
 use records::DirentGuestType;
 use records::GuestType;
 
-// The fields of a vector, if there is one.
-fn vector_at(memory: &[u8], ptr: u64) -> Option<(u32, u32)> {
+// The vector at an address, if there is one.
+fn vector_at(memory: &[u8], ptr: u64) -> Option<Ciovec> {
     match Ciovec::read(memory, ptr) {
-        Ok(vector) => Some((vector.buf, vector.buf_len)),
+        Ok(vector) => Some(vector),
         Err(_) => None,
     }
 }
@@ -46,8 +46,9 @@ mod tests {
             memory,
             *b"\xaa\xaa\xaa\xaa\x01\x02\x03\x04\x05\x06\x07\x08\xaa\xaa\xaa\xaa",
         )?;
-        check_eq(vector_at(&memory, 4), Some((0x0403_0201, 0x0807_0605)))?;
-        check_eq(vector_at(&memory, 12), None)
+        check(vector_at(&memory, 12).is_none())?;
+        let back = vector_at(&memory, 4).ok_or("refused")?;
+        check_eq((back.buf, back.buf_len), (0x0403_0201, 0x0807_0605))
     }
 
     #[test]
