@@ -9,7 +9,7 @@ use records::GuestType;
 pub use vectors::Array;
 pub use vectors::first_non_empty;
 
-// What a guest's calls may still make a host copy.
+// What a guest's calls may still be charged.
 #[derive(Clone, Copy)]
 pub struct Fuel {
     pub remaining: u64,
