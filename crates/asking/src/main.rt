@@ -1,4 +1,6 @@
 // A host in memory is started and asked for a file: one line an asking, with its answer below.
+#![tactic(auto)]
+
 use errno::{Errno, ErrorCode};
 use host::{DirHost, FileHost, FileStream, Start, StreamError};
 use memory_host::MemoryHost;

@@ -1,4 +1,6 @@
 // What a guest's call goes through before any file is touched: fuel, vectors and a path, one line a step.
+#![tactic(auto)]
+
 use errno::{Error, TrapCause};
 use fuel::{Array, Fuel, first_non_empty};
 use memory::Region;

@@ -1,4 +1,6 @@
 // How calls fail: an errno that the guest is told, or a trap that stops it; and the codes with which a host refuses.
+#![tactic(auto)]
+
 ghost use Rattle.std.specs.Prelude.{◌≡◌};
 ghost use Rattle.errno.specs.Numbers.{errno_number, errno_of};
 ghost use Rattle.errno.specs.declared.Error.TheVariants.{Errno as ToldErrno};

@@ -1,4 +1,6 @@
 // What a guest pays for with its fuel: its vectors and the buffer that they name.
+#![tactic(auto)]
+
 mod vectors;
 
 ghost use Rattle.std.specs.Prelude.{◌*◌};

@@ -1,4 +1,6 @@
 // Examples on the edges of what a guest hands over: vectors, fuel and paths.
+#![tactic(auto)]
+
 mod paths;
 mod vectors;
 

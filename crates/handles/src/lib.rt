@@ -1,4 +1,6 @@
 // A fixed table of handles, for hosts without a heap: what is open behind each of 80 numbers.
+#![tactic(auto)]
+
 mod file_number;
 mod handles;
 mod name;

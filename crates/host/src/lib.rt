@@ -1,5 +1,7 @@
 // What the calls ask of a host: files, streams and directories behind handles. Each asking has one law over what the
 // host means, so that code above is written and proved once, for every host.
+#![tactic(auto)]
+
 mod answers;
 mod dir_host;
 mod file_host;

@@ -1,4 +1,6 @@
 // An unhelpful host, to show what the laws allow: it refuses nearly everything, and faults on every drop.
+#![tactic(auto)]
+
 mod grudging;
 
 pub use grudging::Grudging;

@@ -1,4 +1,6 @@
 // A guest's memory is a byte slice of any length; addresses and lengths in it are 32-bit words.
+#![tactic(auto)]
+
 ghost use Rattle.std.specs.Prelude.{◌≡◌};
 ghost use Rattle.memory.specs.Ranges.{checked, told};
 

@@ -1,4 +1,6 @@
 // What is asked of a directory in memory: its entries, and the opening of paths.
+#![tactic(auto)]
+
 ghost use Rattle.std.specs.Prelude.{◌≡◌, true};
 ghost use Rattle.handles.specs.Names.{is_name};
 ghost use Rattle.memory_files.specs.Disk.{disk};

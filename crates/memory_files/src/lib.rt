@@ -1,4 +1,6 @@
 // What is asked of files in memory: over what is open and the files that there are. All bytes are moved that can be.
+#![tactic(auto)]
+
 ghost use Rattle.std.specs.Prelude.{◌≡◌};
 ghost use Rattle.memory_files.specs.Disk.{disk};
 ghost use Rattle.memory_files.specs.Askings.{read_at as reading, write_at as writing, append as appending, stat as stat_told, read_via_stream as streaming, take_file as taking};

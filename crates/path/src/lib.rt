@@ -1,4 +1,6 @@
 // A path that a guest hands over.
+#![tactic(auto)]
+
 ghost use Rattle.std.specs.Prelude.{Ok, Err};
 ghost use Rattle.fuel.specs.Charges.{Is};
 ghost use Rattle.path.specs.Paths.{ReadString, found};

@@ -1,4 +1,6 @@
 // Records of witx: how many bytes each has, where it may lie, and how it is read and written.
+#![tactic(auto)]
+
 ghost use Rattle.std.specs.Prelude.{◌≡◌, ℕ, ◌+◌, ◌<◌, ◌≤◌, List, length, IfOk, Ok, Err};
 ghost use Rattle.memory.specs.declared.Region.{Region as RegionOf};
 ghost use Rattle.records.specs.Layout.{field, placed, read_at, vector_bytes, WriteAt};

@@ -1,4 +1,6 @@
 // Records as witx lays them out, byte for byte.
+#![tactic(auto)]
+
 use records::{Ciovec, Dirent, GuestType};
 
 // The vector at an address, if there is one.

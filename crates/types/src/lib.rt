@@ -1,4 +1,6 @@
 // The types of WASI preview 1 that the calls take and answer, with their numbers from witx.
+#![tactic(auto)]
+
 mod filetype;
 mod flags;
 mod whence;

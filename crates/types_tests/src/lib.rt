@@ -1,4 +1,6 @@
 // Examples of the words that a guest passes, and of the numbers that it is told.
+#![tactic(auto)]
+
 use types::{Fdflags, Lookupflags, Oflags, Whence};
 
 // Whether a word passes as whence, fdflags, oflags and lookupflags.

@@ -1,4 +1,6 @@
 // Whether bytes are UTF-8 by RFC 3629: no overlong forms, no surrogates, nothing above U+10FFFF.
+#![tactic(auto)]
+
 ghost use Rattle.std.specs.Prelude.{◌≡◌, Decides};
 ghost use Rattle.utf8.specs.Grammar.{Utf8Octets};
 ghost use Rattle.utf8.specs.Machine.{Scanned, after, lead, pending};
