@@ -17,10 +17,10 @@ pub trait DirHost: FileHost {
         oflags: Oflags,
         flags: DescriptorFlags,
     ) -> Result<Fresh, ErrorCode>
-        ensures { OpenAt (Self.FileHost.meaning self.old) directory.0 oflags.0 result (Self.FileHost.meaning self.new) };
+        ensures { OpenAt (Self.meaning self.old) directory.0 oflags.0 result (Self.meaning self.new) };
 
     fn entry_count(&mut self, directory: Handle) -> Result<u32, ErrorCode>
-        ensures { EntryCount (Self.FileHost.meaning self.old) directory.0 result (Self.FileHost.meaning self.new) };
+        ensures { EntryCount (Self.meaning self.old) directory.0 result (Self.meaning self.new) };
 
     // The entry at the index, with its name in the front of the buffer.
     fn entry(
@@ -29,9 +29,9 @@ pub trait DirHost: FileHost {
         index: u32,
         name: &mut [u8; 255],
     ) -> Result<DirEntry, ErrorCode>
-        ensures { EntryAt (Self.FileHost.meaning self.old) directory.0 index name.old result name.new (Self.FileHost.meaning self.new) };
+        ensures { EntryAt (Self.meaning self.old) directory.0 index name.old result name.new (Self.meaning self.new) };
 
     // Ends all handles and gives those that a new context begins with.
     fn start(&mut self) -> Start
-        ensures { Started (Self.FileHost.meaning self.old) result (Self.FileHost.meaning self.new) };
+        ensures { Started (Self.meaning self.old) result (Self.meaning self.new) };
 }

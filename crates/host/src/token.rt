@@ -36,7 +36,7 @@ impl Fresh {
     }
 
     pub fn hand_back<H: FileHost>(self, host: &mut H) -> Result<(), DropFault>
-        ensures { DropHandle (meaning host.old) self.handle.0 (meaning host.new) }
+        ensures { DropHandle (H.meaning host.old) self.handle.0 (H.meaning host.new) }
     {
         let Fresh { handle, kind: _ } = self;
         host.drop_handle(handle)
@@ -57,13 +57,13 @@ impl FileStream {
     }
 
     pub fn read<H: FileHost>(&self, host: &mut H, buffer: &mut [u8]) -> Result<usize, StreamError>
-        ensures { ReadStream (meaning host.old) self.now.handle.0 buffer.old result buffer.new (meaning host.new) }
+        ensures { ReadStream (H.meaning host.old) self.now.handle.0 buffer.old result buffer.new (H.meaning host.new) }
     {
         host.read_stream(self.handle, buffer)
     }
 
     pub fn close<H: FileHost>(self, host: &mut H) -> Result<(), DropFault>
-        ensures { DropHandle (meaning host.old) self.handle.0 (meaning host.new) }
+        ensures { DropHandle (H.meaning host.old) self.handle.0 (H.meaning host.new) }
     {
         let FileStream { handle } = self;
         host.drop_handle(handle)

@@ -10,8 +10,8 @@ filled at ptr k xs ys zs p e f = rw (p, e, f) (simp (append_assoc, drop-drop))
 
 pub returns : goal.returns
 returns c =
-    let at = c.in-ok-at.at in
-    let here : c.in-ok-at.at ≡ c.args.ptr = search rules in
-    let k : (c.in-ok-at.at + length c.args.bytes.now) - c.in-ok-at.at ≡ length c.args.bytes.now = omega arith in
-    let same : c.copy-from-slice.new.self ≡ c.args.bytes.now = search rules in
+    let at = c.in_ok-at.at in
+    let here : c.in_ok-at.at ≡ c.args.ptr = search rules in
+    let k : (c.in_ok-at.at + length c.args.bytes.now) - c.in_ok-at.at ≡ length c.args.bytes.now = omega arith in
+    let same : c.copy_from_slice.new.self ≡ c.args.bytes.now = search rules in
     (search rules, filled at c.args.ptr _ c.args.memory.now _ c.args.bytes.now here k same)

@@ -11,7 +11,7 @@ pub returns-in-Free : goal.returns-in-Free
 returns-in-Free c = (sym (here is_free c.args.slots.now c.loop-i.i c.index-slots-i.result c.loop-i-test.true c.index-slots-i.is (ap is_free c.in-Free.is)) ∙ c.loop-i.invariant, c.loop-i-test.true)
 
 pub loop-i-preserved : goal.loop-i-preserved
-loop-i-preserved c = sym (later is_free c.args.slots.now c.loop-i.i c.index-slots-i.result c.loop-i-test.true c.index-slots-i.is (taken c.index-slots-i.result c.in-default.not-Free)) ∙ c.loop-i.invariant
+loop-i-preserved c = sym (later is_free c.args.slots.now c.loop-i.i c.index-slots-i.result c.loop-i-test.true c.index-slots-i.is (taken c.index-slots-i.result c.in_default.not-Free)) ∙ c.loop-i.invariant
 
 pub returns : goal.returns
 returns c = (sym (nowhere is_free c.args.slots.now c.loop-i.i c.loop-i-test.false) ∙ c.loop-i.invariant, tt)

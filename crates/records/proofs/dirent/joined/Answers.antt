@@ -15,4 +15,4 @@ in_order n i l next ino namlen kind en ei el = rw (en, ei, el)
 pub returns : goal.returns
 unfolding entry_bytes
 returns c =
-    in_order _ _ _ c.args.next c.args.ino c.args.namlen c.args.kind (c.to-le-bytes-n.ensures ∙ eight c.args.next) (c.to-le-bytes-i.ensures ∙ eight c.args.ino) (c.to-le-bytes-l.ensures ∙ four c.args.namlen)
+    in_order _ _ _ c.args.next c.args.ino c.args.namlen c.args.kind (c.to_le_bytes-n.ensures ∙ eight c.args.next) (c.to_le_bytes-i.ensures ∙ eight c.args.ino) (c.to_le_bytes-l.ensures ∙ four c.args.namlen)

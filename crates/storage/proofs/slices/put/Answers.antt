@@ -5,6 +5,6 @@ use Rattle.storage.proofs.slices.put.Goals as goal
 
 pub returns : goal.returns
 returns c = (
-  front_pasted c.args.store.now c.args.source.now c.copy-from-slice.new.self c.args.len c.args.offset _ c.max.result (omega arith) (search rules) (search rules) (search rules) (search rules) (search rules),
+  front_pasted c.args.store.now c.args.source.now c.copy_from_slice.new.self c.args.len c.args.offset _ c.max.result (omega arith) (search rules) (search rules) (search rules) (search rules) (search rules),
   search (rules, places),
 )

@@ -8,4 +8,4 @@ use Rattle.memory_host.proofs.host.file_host.MemoryHostFileHost.read_at.Goals as
 pub returns : goal.returns
 returns c =
     let s = state c.args.self.now in
-    subst (λ (out : Result ℕ ErrorCode × List ℕ). ReadAt (means s) c.args.file.0 c.args.offset c.args.buffer.now out.0 out.1 (means s)) (sym c.read-at.ensures) (read_law s c.args.file.0 c.args.offset c.args.buffer.now)
+    subst (λ (out : Result ℕ ErrorCode × List ℕ). ReadAt (means s) c.args.file.0 c.args.offset c.args.buffer.now out.0 out.1 (means s)) (sym c.read_at.ensures) (read_law s c.args.file.0 c.args.offset c.args.buffer.now)
