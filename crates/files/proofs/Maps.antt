@@ -3,7 +3,6 @@ use Rattle.std.proofs.Common.{◌≡◌, ℕ, ◌+◌, ◌<◌, ◌≤◌, Bool,
 use Rattle.std.proofs.lemmas.List.{map-set, get_or-map, set-get_or, take_more_set, length-map, length-take}
 use Rattle.std.proofs.lemmas.Bool.Decides.{same_from_decides, Decides-eqb}
 use Rattle.std.proofs.lemmas.Slice.Eq.{slice_eq-Decides, bytes_eq-Decides}
-use Rattle.std.specs.Cmp.Lexicographic.{Matches}
 use Rattle.std.specs.Str.{bytes_eq}
 use Rattle.storage.specs.declared.file.File.{File}
 use Rattle.storage.specs.Held.{name_of, content_of, FileWrote}
@@ -22,10 +21,6 @@ map_kept f xs i x y h s = map_put f xs i y (get_or (map f xs) i []) (s ∙ sym (
 pub wrote : (files : List File) (i offset : ℕ) (bytes : List ℕ) (x y : File) (r : Bool) → i < length files → FileWrote (get_or files i x) offset bytes r y → WroteTo files i offset bytes r (set files i y)
 wrote files i offset bytes x y true h w = (w.0, map_kept name_of files i x y h w.2, map_put content_of files i y _ (w.1 ∙ ap (λ c. written c offset bytes) (sym (get_or-map content_of files i x [] h))))
 wrote files i offset bytes x y false h w = (w.0, map_kept name_of files i x y h w.2, map_kept content_of files i x y h w.1)
-
--- equal slices have the same bytes
-pub same : (xs ys : List ℕ) (r : Bool) → Matches (λ (a b : ℕ) (t : Bool). Decides t (a ≡ b)) xs ys r → r ≡ bytes_eq xs ys
-same xs ys r m = same_from_decides r (bytes_eq xs ys) (slice_eq-Decides Decides-eqb xs ys r m) (bytes_eq-Decides xs ys)
 
 -- one file more: its name is the last
 one_more : (f : File → List ℕ) (xs : List File) (i : ℕ) (y : File) (v : List ℕ) → i < length xs → f y ≡ v → take (i + 1) (map f (set xs i y)) ≡ take i (map f xs) ++ v ∷ []
