@@ -1,7 +1,7 @@
 -- What an open handle means. The files are the nodes 0 to 7, by their numbers.
 use Rattle.std.specs.Prelude.{ℕ, List, Some, None, Option}
 use Rattle.types.specs.declared.flags.DescriptorFlags.{DescriptorFlags}
-use Rattle.host.specs.Meaning.{Source, queue, place, Kind, file, directory, input, output, Live}
+use Rattle.host.specs.Meaning.{queue, place, Kind, file, directory, input, output, Live}
 use Rattle.handles.specs.declared.open.Open.{Open}
 use Rattle.handles.specs.declared.open.Open.TheVariants.{Free, Node as OpenNode, Stream, Stdin, Stdout, Stderr}
 use Rattle.handles.specs.declared.open.Node.{Node}

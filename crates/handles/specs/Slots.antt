@@ -7,7 +7,6 @@ use Rattle.types.specs.declared.flags.DescriptorFlags.{DescriptorFlags}
 use Rattle.types.specs.Words.{contains}
 use Rattle.handles.specs.First.{first}
 use Rattle.handles.specs.declared.file_number.FileNumber.{FileNumber}
-use Rattle.handles.specs.declared.open.Node.{Node as NodeOf}
 use Rattle.handles.specs.declared.open.Node.TheVariants.{Directory, File}
 use Rattle.handles.specs.declared.open.Opened.{Opened}
 use Rattle.handles.specs.declared.open.Open.{Open}

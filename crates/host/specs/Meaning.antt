@@ -1,5 +1,5 @@
 -- What a host means: the handles that it holds open, and the nodes that lie behind them.
-use Rattle.std.specs.Prelude.{◌≡◌, ℕ, ◌^◌, ◌≤◌, cond, List, [], ◌∷◌, length, drop, Option, ◌==◌}
+use Rattle.std.specs.Prelude.{ℕ, ◌^◌, ◌≤◌, cond, List, [], ◌∷◌, length, drop, Option, ◌==◌}
 use Rattle.errno.specs.declared.ErrorCode.{ErrorCode}
 use Rattle.types.specs.declared.filetype.Filetype.{Filetype}
 use Rattle.types.specs.declared.flags.DescriptorFlags.{DescriptorFlags}

@@ -1,5 +1,5 @@
 -- What the grudging host means: three streams, and zeros that wait on the first.
-use Rattle.std.specs.Prelude.{ℕ, ◌^◌, ◌≤◌, Bool, true, false, cond, List, [], ◌∷◌, length, replicate, Some, None, Option, ◌==◌, slice_index_or}
+use Rattle.std.specs.Prelude.{ℕ, Bool, false, cond, [], replicate, Some, None, Option, ◌==◌, slice_index_or}
 use Rattle.std.proofs.Common.{arith}
 use Rattle.host.specs.Meaning.{Live, Kind, input, queue, output, Meaning, Bounded}
 use Rattle.host_tests.specs.declared.grudging.Grudging.{Grudging}

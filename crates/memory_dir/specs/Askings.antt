@@ -18,7 +18,7 @@ use Rattle.handles.specs.declared.open.Node.TheVariants.{Directory, File}
 use Rattle.handles.specs.Slots.{directory_at, first_free}
 use Rattle.handles.specs.Names.{is_dot, is_name}
 use Rattle.files.specs.Lists.{Found}
-use Rattle.memory_files.specs.Disk.{Disk, with_content, with_slots, Outcome}
+use Rattle.memory_files.specs.Disk.{Disk, with_content, Outcome}
 use Rattle.memory_files.specs.Askings.{give}
 
 -- the entries' number, and the entry at an index with its name in the buffer

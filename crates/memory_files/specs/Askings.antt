@@ -1,5 +1,5 @@
 -- What is answered to an asking of a file, and what there is after it.
-use Rattle.std.specs.Prelude.{ℕ, ◌+◌, ◌-◌, min, cond, List, [], length, drop, Some, None, Ok, Err, Option, Result, ◌==◌, nat_le, slice_set}
+use Rattle.std.specs.Prelude.{ℕ, ◌+◌, ◌-◌, min, cond, List, length, drop, Some, None, Ok, Err, Option, Result, ◌==◌, nat_le, slice_set}
 use Rattle.errno.specs.declared.ErrorCode.{ErrorCode}
 use Rattle.errno.specs.declared.ErrorCode.TheVariants.{BadDescriptor, FileTooLarge, InsufficientSpace}
 use Rattle.types.specs.declared.Handle.{Handle}

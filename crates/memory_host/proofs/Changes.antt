@@ -1,10 +1,10 @@
 -- What a change of the state changes in its meaning.
-use Rattle.std.proofs.Common.{◌≡◌, ℕ, ◌+◌, ◌<◌, ◌≤◌, Bool, true, false, cond, eqb, List, [], length, get_or, set, Some, None, Option, sym, refl, ap, ◌∙◌, arith}
+use Rattle.std.proofs.Common.{◌≡◌, ℕ, ◌<◌, cond, eqb, List, [], length, set, None, arith}
 use Rattle.std.proofs.lemmas.Bool.Decides.{nat_tests}
-use Rattle.host.specs.Meaning.{Meaning, Live, with_live, with_content as with_bytes, with_waiting, with_taken, at}
+use Rattle.host.specs.Meaning.{with_live, with_content as with_bytes, with_waiting, with_taken}
 use Rattle.handles.specs.declared.open.Open.{Open}
 use Rattle.handles.specs.declared.file_number.FileNumber.{FileNumber}
-use Rattle.handles.specs.Lives.{live_of, lives}
+use Rattle.handles.specs.Lives.{live_of}
 use Rattle.memory_host.specs.State.{State, means, with_disk}
 use Rattle.memory_files.specs.Disk.{with_content, with_slots}
 use Rattle.memory_host.specs.Streams.{with_input, with_outputs, drop_handle}

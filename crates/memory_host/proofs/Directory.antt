@@ -1,18 +1,17 @@
 -- The answers on the directory keep the laws.
-use Rattle.std.proofs.Common.{◌≡◌, ℕ, zero, suc, ◌+◌, ◌-◌, ◌<◌, ◌≤◌, min, Bool, true, false, cond, ◌&&◌, ◌||◌, T, eqb, ltb, List, [], ◌∷◌, ◌++◌, length, get_or, take, drop, set, Some, None, Ok, Err, MatchBool, Option, Result, sym, refl, ap, ◌∙◌, subst, ⊎_elim, le_refl, arith}
-use Rattle.std.proofs.lemmas.List.{drop_more, drop_all, take_all, length-append, get_or_past}
-use Rattle.std.proofs.lemmas.Bool.{cond_both, cond-true, cond-false, ltb-true, ltb-false, lt-ltb, le-ltb, eq-eqb, ne_eqb, cases_Bool, cases_lt}
+use Rattle.std.proofs.Common.{◌≡◌, ℕ, zero, suc, ◌+◌, ◌<◌, Bool, true, false, cond, ◌&&◌, ◌||◌, T, eqb, ltb, List, [], ◌∷◌, ◌++◌, length, get_or, drop, Some, None, Ok, Err, MatchBool, Option, Result, sym, refl, ap, ◌∙◌, subst, arith}
+use Rattle.std.proofs.lemmas.List.{drop_all, take_all, length-append}
+use Rattle.std.proofs.lemmas.Bool.{cond_both, cond-true, cond-false, ltb-true, ltb-false, le-ltb, eq-eqb, ne_eqb}
 use Rattle.std.proofs.lemmas.Bool.Decides.{nat_tests}
 use Rattle.errno.specs.declared.ErrorCode.{ErrorCode}
 use Rattle.errno.specs.declared.ErrorCode.TheVariants.{NoEntry}
 use Rattle.types.specs.declared.flags.DescriptorFlags.{DescriptorFlags}
-use Rattle.types.specs.declared.filetype.Filetype.{Filetype}
 use Rattle.types.specs.declared.filetype.Filetype.TheVariants.{Directory as DirectoryType, RegularFile}
 use Rattle.types.specs.Words.{contains, creat, directory as directory_bit, excl, trunc}
 use Rattle.host.specs.declared.token.Fresh.{Fresh}
 use Rattle.host.specs.declared.token.NodeKind.TheVariants.{File as FileNode, Directory as DirectoryNode}
 use Rattle.host.specs.declared.answers.DirEntry.{DirEntry}
-use Rattle.host.specs.Meaning.{Live, Meaning, Entry, readable, file, directory, at, with_live, with_content as with_bytes}
+use Rattle.host.specs.Meaning.{Live, Meaning, Entry, readable, file, directory, with_live}
 use Rattle.host.specs.Laws.{EntryCount, EntryAt, EntryIs, entries_of, Addition, Effect, nothing, emptied, added, done, Allowed, Opened, listed}
 use Rattle.host.specs.Laws as laws
 use Rattle.handles.specs.declared.file_number.FileNumber.{FileNumber}
@@ -24,11 +23,11 @@ use Rattle.handles.specs.Slots.{open_at, opened_of, directory_of, directory_at, 
 use Rattle.handles.specs.Lives.{lives, live_of, standing}
 use Rattle.handles.specs.Names.{is_dot, is_name}
 use Rattle.std.specs.Str.{bytes_eq}
-use Rattle.files.specs.Lists.{index_of, Found}
-use Rattle.memory_host.specs.State.{State, means, with_disk, entries, type_of, serial_of}
-use Rattle.memory_files.specs.Disk.{Disk, Outcome, with_content, with_slots}
+use Rattle.files.specs.Lists.{Found}
+use Rattle.memory_host.specs.State.{State, means, with_disk, entries, type_of}
+use Rattle.memory_files.specs.Disk.{Disk, Outcome, with_content}
 use Rattle.memory_files.specs.Askings.{give}
-use Rattle.memory_dir.specs.Askings.{count_in, entry_count, entry_of, entry_in, entry_at, node_of, fresh, open_directory, give_file, open_existing, Next, with_file, new_file, Ends, NewFile, OpenNew, OpenFound, OpenName, OpenIn, OpenAt}
+use Rattle.memory_dir.specs.Askings.{count_in, entry_count, entry_of, entry_in, entry_at, node_of, fresh, open_directory, give_file, open_existing, Next, with_file, new_file, Ends, NewFile, OpenFound, OpenIn, OpenAt}
 use Rattle.memory_host.proofs.Slots.{set_index, directory_live, free_live, found}
 use Rattle.memory_host.proofs.Files.{type_there}
 use Rattle.memory_host.proofs.Changes.{slot_put, bytes_put}

@@ -1,17 +1,15 @@
 -- The answers on files keep the laws.
-use Rattle.std.proofs.Common.{◌≡◌, ℕ, ◌+◌, ◌-◌, ◌<◌, ◌≤◌, min, Bool, true, false, cond, eqb, ltb, leb, List, [], ◌++◌, length, get_or, take, Some, None, Ok, Err, Option, Result, sym, refl, ap, ◌∙◌, le_refl, arith}
+use Rattle.std.proofs.Common.{◌≡◌, ℕ, ◌+◌, ◌<◌, eqb, ltb, leb, List, [], ◌++◌, length, Some, Ok, Err, Result, sym, refl, ap, ◌∙◌, le_refl, arith}
 use Rattle.std.proofs.lemmas.List.{take_all, length-map, get_or_past}
 use Rattle.std.proofs.lemmas.Bool.{cond_both, cond-true, cond-false, lt-ltb, leb-false, ne_eqb}
 use Rattle.errno.specs.declared.ErrorCode.{ErrorCode}
-use Rattle.errno.specs.declared.ErrorCode.TheVariants.{FileTooLarge}
 use Rattle.types.specs.declared.flags.DescriptorFlags.{DescriptorFlags}
 use Rattle.types.specs.declared.filetype.Filetype.TheVariants.{RegularFile}
 use Rattle.host.specs.declared.answers.Stat.{Stat}
 use Rattle.types.specs.Words.{read, write}
-use Rattle.host.specs.declared.token.NodeKind.{NodeKind}
 use Rattle.host.specs.declared.token.NodeKind.TheVariants.{File as FileNode, Directory as DirectoryNode}
-use Rattle.host.specs.Meaning.{Live, Meaning, file, directory, with_content as with_bytes}
-use Rattle.host.specs.Laws.{ReadAt, WriteAt, Append, StatOf, Node, kind_of, written}
+use Rattle.host.specs.Meaning.{Live, file, directory, with_content as with_bytes}
+use Rattle.host.specs.Laws.{ReadAt, WriteAt, Append, StatOf, Node, written}
 use Rattle.storage.specs.Held.{content_of, too_large}
 use Rattle.storage.proofs.Fronts.{appended}
 use Rattle.handles.specs.declared.file_number.FileNumber.{FileNumber}
@@ -23,7 +21,7 @@ use Rattle.handles.specs.Lives.{lives, standing, node_kind, node_number}
 use Rattle.memory_host.specs.declared.host.MemoryHost.{MemoryHost}
 use Rattle.memory_host.specs.State.{State, state, means, with_disk, type_of, serial_of}
 use Rattle.memory_files.specs.Disk.{Outcome, content}
-use Rattle.memory_files.specs.Askings.{read_from, read_at, put_bytes, write_to, write_at, append_to, append, stat_node, stat_of, stat}
+use Rattle.memory_files.specs.Askings.{read_from, read_at, write_to, write_at, append_to, append, stat_node, stat_of, stat}
 use Rattle.memory_host.proofs.Slots.{for_live, opened_live}
 use Rattle.memory_host.proofs.Changes.{bytes_put}
 

@@ -1,10 +1,9 @@
 -- What is open from the start keeps the law.
-use Rattle.std.proofs.Common.{◌≡◌, ℕ, zero, suc, ◌+◌, ◌<◌, ◌≤◌, Bool, true, false, cond, List, [], ◌∷◌, map, length, get_or, take, replicate, Some, None, Option, sym, refl, ap, ◌∙◌, subst, arith}
+use Rattle.std.proofs.Common.{◌≡◌, ℕ, zero, suc, false, [], ◌∷◌, map, get_or, replicate, None, sym, refl, ap, ◌∙◌, subst, arith}
 use Rattle.host.specs.declared.answers.Start.{Start}
 use Rattle.host.specs.declared.answers.Preopen.{Preopen}
 use Rattle.host.specs.Meaning.{Meaning}
 use Rattle.host.specs.Laws.{Started, preopens, given, among, Apart, Preopened}
-use Rattle.handles.specs.declared.open.Open.{Open}
 use Rattle.handles.specs.declared.open.Open.TheVariants.{Free}
 use Rattle.handles.specs.Lives.{lives, live_of}
 use Rattle.handles.specs.Starts.{started, Gives}

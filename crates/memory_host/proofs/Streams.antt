@@ -1,22 +1,22 @@
 -- The answers on streams keep the laws.
-use Rattle.std.proofs.Common.{◌≡◌, ℕ, ◌+◌, ◌-◌, ◌<◌, ◌≤◌, min, Bool, true, false, cond, eqb, ltb, leb, List, [], ◌++◌, length, get_or, take, drop, set, Some, None, Ok, Err, Option, Result, sym, refl, ap, ◌∙◌, ⊎_elim, arith}
+use Rattle.std.proofs.Common.{◌≡◌, ℕ, ◌+◌, ◌-◌, ◌<◌, min, eqb, ltb, leb, List, ◌++◌, length, drop, set, Some, None, Ok, Err, Option, Result, sym, refl, ap, ◌∙◌, ⊎_elim, arith}
 use Rattle.std.proofs.lemmas.List.{drop_all, length-drop}
 use Rattle.std.proofs.lemmas.Bool.{cond_both, cond-true, cond-false, cases_eq, eq-eqb, ne_eqb, eqb-true, eqb-false, leb-true, leb-false}
 use Rattle.errno.specs.declared.ErrorCode.{ErrorCode}
 use Rattle.types.specs.declared.flags.DescriptorFlags.{DescriptorFlags}
 use Rattle.types.specs.Words.{read}
 use Rattle.host.specs.declared.token.FileStream.{FileStream}
-use Rattle.host.specs.Meaning.{Live, Meaning, Source, queue, place, file, input, output, waits, with_live, with_waiting, with_taken, at}
+use Rattle.host.specs.Meaning.{Live, Meaning, Source, queue, place, file, input, output, waits, with_live, with_waiting, at}
 use Rattle.host.specs.Laws.{ReadViaStream, ReadStream, WriteStream, DropHandle, Stands, stream_on, took, filled}
 use Rattle.handles.specs.declared.file_number.FileNumber.{FileNumber}
 use Rattle.handles.specs.declared.open.Open.{Open}
 use Rattle.handles.specs.declared.open.Open.TheVariants.{Free, Node, Stream, Stdin, Stdout, Stderr}
 use Rattle.handles.specs.Slots.{open_at, file_for, first_free}
-use Rattle.handles.specs.Lives.{lives, live_of}
+use Rattle.handles.specs.Lives.{live_of}
 use Rattle.memory_host.specs.State.{State, means, with_disk}
-use Rattle.memory_files.specs.Disk.{Disk, content, with_slots, Outcome as DiskOutcome}
+use Rattle.memory_files.specs.Disk.{content, with_slots, Outcome as DiskOutcome}
 use Rattle.memory_files.specs.Askings.{give, stream_from, read_via_stream, Taking, taking, moved}
-use Rattle.memory_host.specs.Streams.{Outcome, with_input, with_outputs, take_from, read_stream, output_takes, output_to, write_stream, drop_handle}
+use Rattle.memory_host.specs.Streams.{Outcome, with_input, take_from, read_stream, output_to, write_stream, drop_handle}
 use Rattle.memory_host.proofs.Slots.{for_live, free_live, inside}
 use Rattle.memory_host.proofs.Changes.{slot_put, slot_dropped, input_left, stdout_taken, stderr_taken}
 

@@ -1,15 +1,14 @@
 -- The memory host keeps the limits of every host.
-use Rattle.std.specs.Prelude.{◌≡◌, ℕ, zero, suc, ◌+◌, ◌^◌, ◌<◌, ◌≤◌, Bool, true, false, cond, List, [], ◌∷◌, map, length, take, ◌==◌, slice_index_or, refl}
-use Rattle.std.proofs.Common.{sym, ◌∙◌, ap, arith}
+use Rattle.std.specs.Prelude.{◌≡◌, ℕ, zero, suc, ◌+◌, ◌≤◌, List, [], ◌∷◌, map, length, take, ◌==◌, slice_index_or, refl}
+use Rattle.std.proofs.Common.{ap, arith}
 use Rattle.std.proofs.lemmas.List.{length-take}
 use Rattle.std.proofs.lemmas.Bool.{cond_both}
-use Rattle.host.specs.Meaning.{Entry, Bounded, Named}
+use Rattle.host.specs.Meaning.{Bounded, Named}
 use Rattle.storage.specs.declared.file.File.{File}
 use Rattle.storage.specs.Held.{name_of, content_of}
-use Rattle.files.specs.declared.files.Files.{Files}
-use Rattle.files.specs.Lists.{names, contents}
+use Rattle.files.specs.Lists.{names}
 use Rattle.memory_host.specs.declared.host.MemoryHost.{MemoryHost}
-use Rattle.memory_host.specs.State.{State, state, means, meaning_of, entries}
+use Rattle.memory_host.specs.State.{meaning_of, entries}
 
 sized : (files : List File) (n : ℕ) → length (slice_index_or (map content_of files) n []) ≤ 2048
 sized [] n = omega arith

@@ -1,5 +1,5 @@
 -- What the memory host holds, and what that means.
-use Rattle.std.specs.Prelude.{◌≡◌, ℕ, ◌+◌, cond, List, [], ◌∷◌, length, replicate, Some, None, Option, ◌==◌, nat_lt, slice_index_or}
+use Rattle.std.specs.Prelude.{ℕ, ◌+◌, cond, List, [], ◌∷◌, length, replicate, Some, None, Option, ◌==◌, nat_lt, slice_index_or}
 use Rattle.types.specs.declared.filetype.Filetype.{Filetype}
 use Rattle.types.specs.declared.filetype.Filetype.TheVariants.{Directory, RegularFile}
 use Rattle.host.specs.Meaning.{Entry, readable, Meaning}

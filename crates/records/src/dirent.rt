@@ -1,7 +1,7 @@
 // An entry of a listing, which its name follows.
 ghost use Rattle.std.specs.Prelude.{◌≡◌, ◌^◌, ◌<◌};
 ghost use Rattle.records.specs.Layout.{dirent_bytes, dirent_of, entry_bytes};
-ghost use borrow.Author.Rules.{rules};
+ghost use Rattle.std.proofs.Common.{rules};
 
 use crate::{GuestType, Layout, load, store, u8_at, u32_at, u64_at};
 use memory::GuestError;

@@ -1,9 +1,8 @@
 -- The front of a list in which a part was overwritten.
-use Rattle.std.proofs.Common.{◌≡◌, ℕ, ◌+◌, ◌-◌, ◌<◌, ◌≤◌, min, max, List, [], ◌∷◌, ◌++◌, length, get_or, take, drop, replicate, sym, refl, ap, ◌∙◌, ⊎_elim, append_assoc, arith, rules}
+use Rattle.std.proofs.Common.{◌≡◌, ℕ, ◌+◌, ◌≤◌, max, List, [], ◌∷◌, ◌++◌, length, take, drop, append_assoc, arith, rules}
 use borrow.Rule.Slice.PartMut.{put_mid}
-use Rattle.std.proofs.lemmas.List.{same_lists, places, drop-drop, length-replicate, get_or-replicate}
-use Rattle.std.proofs.lemmas.Bool.{cases_eq}
-use Rattle.host.specs.Laws.{padded, pasted, written}
+use Rattle.std.proofs.lemmas.List.{same_lists, places, drop-drop}
+use Rattle.host.specs.Laws.{pasted, written}
 
 -- a write to a part, as what lies before it, what is written and what lies behind
 middle : (a k m : ℕ) (xs ys zs : List ℕ) → k ≡ m → ys ≡ zs → put_mid a k xs ys ≡ take a xs ++ zs ++ drop (a + m) xs

@@ -1,5 +1,5 @@
 -- What the fixed stores hold.
-use Rattle.std.specs.Prelude.{◌≡◌, ℕ, ◌+◌, ◌≤◌, Bool, true, false, ◌&&◌, List, [], ◌++◌, length, take, Some, None, Option, nat_lt}
+use Rattle.std.specs.Prelude.{◌≡◌, ℕ, ◌+◌, ◌≤◌, Bool, true, false, ◌&&◌, List, ◌++◌, length, take, Some, None, Option, nat_lt}
 use Rattle.host.specs.Laws.{written}
 use Rattle.storage.specs.declared.file.File.{File}
 use Rattle.storage.specs.declared.output.Output.{Output}

@@ -1,9 +1,9 @@
 -- The bytes that the code takes are those of the grammar, and no others.
-use Rattle.std.proofs.Common.{◌≡◌, ℕ, zero, suc, ◌-◌, ◌<◌, ◌≤◌, Bool, true, false, cond, eqb, leb, ◌⊎◌, List, [], ◌∷◌, ◌++◌, Some, None, Decides, Option, sym, refl, ap, ◌∙◌, inl, inr, ⊎_elim, arith}
+use Rattle.std.proofs.Common.{◌≡◌, ℕ, zero, suc, ◌-◌, ◌≤◌, Bool, true, cond, eqb, leb, List, [], ◌∷◌, ◌++◌, Some, None, Decides, Option, sym, refl, ap, ◌∙◌, inl, inr, ⊎_elim, arith}
 use Rattle.std.proofs.lemmas.Bool.{le-leb, leb-true, and_from, and_parts, cases_Bool, cases_lt, cond-false, false≢true, ne_eqb}
 use Rattle.std.proofs.lemmas.Bool.Decides.{nat_tests}
 use Rattle.utf8.specs.declared.Pending.{Pending}
-use Rattle.utf8.specs.Grammar.{Row, Within, Matches, utf8_tail, Utf8Char, Utf8Chars, joined, Utf8Octets}
+use Rattle.utf8.specs.Grammar.{Row, Within, Matches, Utf8Char, Utf8Chars, joined, Utf8Octets}
 use Rattle.utf8.specs.Machine.{pending, between, lead, after, accepts}
 
 -- what is left of a row

@@ -1,5 +1,5 @@
 -- The bytes of a text one by one, as the code goes through them.
-use Rattle.std.specs.Prelude.{ℕ, ◌-◌, Bool, true, false, cond, ◌&&◌, List, [], ◌∷◌, Some, None, Decides, Option, ◌==◌, nat_le}
+use Rattle.std.specs.Prelude.{ℕ, ◌-◌, Bool, false, cond, ◌&&◌, List, [], ◌∷◌, Some, None, Decides, Option, ◌==◌, nat_le}
 use Rattle.utf8.specs.declared.Pending.{Pending}
 use Rattle.utf8.specs.Grammar.{Utf8Octets}
 

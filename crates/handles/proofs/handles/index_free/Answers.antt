@@ -1,4 +1,4 @@
-use Rattle.std.proofs.Common.{◌≡◌, sym, refl, ap, ◌∙◌}
+use Rattle.std.proofs.Common.{sym, refl, ap, ◌∙◌}
 use Rattle.handles.specs.Slots.{is_free}
 use Rattle.handles.proofs.First.{here, later, nowhere}
 use Rattle.handles.proofs.Free.{taken}

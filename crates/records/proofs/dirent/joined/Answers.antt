@@ -1,4 +1,4 @@
-use Rattle.std.proofs.Common.{◌≡◌, ℕ, ◌/◌, ◌%◌, List, [], ◌∷◌, ◌++◌, get_or, refl, ◌∙◌}
+use Rattle.std.proofs.Common.{◌≡◌, ℕ, ◌/◌, ◌%◌, List, [], ◌∷◌, ◌++◌, get_or, ◌∙◌}
 use native.Mathlib.Nat.{div-div-eq-div-mul}
 use Rattle.records.specs.Layout.{entry_bytes, little_endian}
 use Rattle.records.proofs.dirent.joined.Goals as goal

@@ -1,4 +1,4 @@
-use Rattle.std.proofs.Common.{◌≡◌, ℕ, List, [], take, set, sym, refl, ap, ◌∙◌}
+use Rattle.std.proofs.Common.{[], take, set, ap, ◌∙◌}
 use Rattle.files.specs.Lists.{contents}
 use Rattle.files.proofs.files.Files.clear.Goals as goal
 

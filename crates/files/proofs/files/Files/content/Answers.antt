@@ -1,4 +1,4 @@
-use Rattle.std.proofs.Common.{◌≡◌, ℕ, List, [], get_or, ap, ◌∙◌, rules}
+use Rattle.std.proofs.Common.{[], get_or, ap, ◌∙◌, rules}
 use Rattle.storage.specs.Held.{content_of}
 use Rattle.files.specs.Lists.{contents}
 use Rattle.files.proofs.Maps.{read_map}

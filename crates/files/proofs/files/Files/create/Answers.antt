@@ -1,4 +1,4 @@
-use Rattle.std.proofs.Common.{refl, ◌∙◌, inl, rules}
+use Rattle.std.proofs.Common.{refl, inl, rules}
 use Rattle.files.proofs.Maps.{created}
 use Rattle.files.proofs.files.Files.create.Goals as goal
 

@@ -1,4 +1,4 @@
-use Rattle.std.proofs.Common.{◌≡◌, ℕ, List, [], get_or, sym, refl, ap, ◌∙◌, rules}
+use Rattle.std.proofs.Common.{[], get_or, sym, ap, ◌∙◌, rules}
 use Rattle.std.proofs.lemmas.List.{length-take}
 use Rattle.storage.specs.Held.{name_of}
 use Rattle.files.proofs.Maps.{read_map}

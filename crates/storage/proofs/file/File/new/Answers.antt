@@ -1,5 +1,5 @@
-use Rattle.std.proofs.Common.{◌≡◌, refl, rules}
-use Rattle.std.proofs.lemmas.List.{take_at, places}
+use Rattle.std.proofs.Common.{rules}
+use Rattle.std.proofs.lemmas.List.{take_at}
 use Rattle.storage.proofs.file.File.new.Goals as goal
 
 pub returns : goal.returns
