@@ -18,7 +18,7 @@ use Rattle.handles.specs.declared.open.Node.{Node as NodeOf}
 use Rattle.handles.specs.declared.open.Node.TheVariants.{Directory, File}
 use Rattle.handles.specs.Slots.{opened_at, file_for}
 use Rattle.handles.specs.Lives.{lives, standing, node_kind, node_number}
-use Rattle.memory_host.specs.declared.host.MemoryHost.{MemoryHost}
+use Rattle.memory_host.specs.declared.in_memory.MemoryHost.{MemoryHost}
 use Rattle.memory_host.specs.State.{State, state, means, with_disk, type_of, serial_of}
 use Rattle.memory_files.specs.Disk.{Outcome, content}
 use Rattle.memory_files.specs.Askings.{read_from, read_at, write_to, write_at, append_to, append, stat_node, stat_of, stat}

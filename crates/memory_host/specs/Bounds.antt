@@ -7,7 +7,7 @@ use Rattle.host.specs.Meaning.{Bounded, Named}
 use Rattle.storage.specs.declared.file.File.{File}
 use Rattle.storage.specs.Held.{name_of, content_of}
 use Rattle.files.specs.Lists.{names}
-use Rattle.memory_host.specs.declared.host.MemoryHost.{MemoryHost}
+use Rattle.memory_host.specs.declared.in_memory.MemoryHost.{MemoryHost}
 use Rattle.memory_host.specs.State.{meaning_of, entries}
 
 sized : (files : List File) (n : ℕ) → length (slice_index_or (map content_of files) n []) ≤ 2048

@@ -7,7 +7,7 @@ use Rattle.storage.specs.Held.{taken_by}
 use Rattle.handles.specs.declared.open.Open.TheVariants.{Free}
 use Rattle.handles.specs.Lives.{lives, directory_node, stdin_node, stdout_node, stderr_node}
 use Rattle.memory_files.specs.Disk.{Disk, disk as disk_of}
-use Rattle.memory_host.specs.declared.host.MemoryHost.{MemoryHost}
+use Rattle.memory_host.specs.declared.in_memory.MemoryHost.{MemoryHost}
 
 pub record State : Type 0 where
   pub disk : Disk

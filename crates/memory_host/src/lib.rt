@@ -1,6 +1,6 @@
 // A host in fixed memory: one directory of up to eight files, 80 handles, and two outputs.
 #![tactic(auto)]
 
-mod host;
+mod in_memory;
 
-pub use host::MemoryHost;
+pub use in_memory::MemoryHost;

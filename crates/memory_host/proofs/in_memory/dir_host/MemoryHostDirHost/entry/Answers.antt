@@ -1,0 +1,12 @@
+use Rattle.std.proofs.Common.{ℕ, List, Result, sym, subst}
+use Rattle.errno.specs.declared.ErrorCode.{ErrorCode}
+use Rattle.host.specs.declared.answers.DirEntry.{DirEntry}
+use Rattle.host.specs.Laws.{EntryAt}
+use Rattle.memory_host.specs.State.{state, means}
+use Rattle.memory_host.proofs.Directory.{entry_law}
+use Rattle.memory_host.proofs.in_memory.dir_host.MemoryHostDirHost.entry.Goals as goal
+
+pub returns : goal.returns
+returns c =
+    let s = state c.args.self.now in
+    subst (λ (out : Result DirEntry ErrorCode × List ℕ). EntryAt (means s) c.args.directory.0 c.args.index c.args.name.now out.0 out.1 (means s)) (sym c.entry.ensures) (entry_law s c.args.directory.0 c.args.index c.args.name.now)
