@@ -5,8 +5,10 @@ ghost use Rattle.std.specs.Prelude.{◌≡◌};
 ghost use Rattle.errno.specs.Numbers.{errno_number, errno_of};
 ghost use Rattle.errno.specs.declared.Error.TheVariants.{Errno as ToldErrno};
 
+use std::fmt;
+
 // The errnos that the calls answer.
-#[derive(Clone, Copy)]
+#[derive(Clone, Copy, Debug, PartialEq, Eq)]
 pub enum Errno {
     Success = 0,
     Acces = 2,
@@ -31,17 +33,17 @@ pub enum Errno {
     Spipe = 70,
 }
 
-impl Errno {
-    // The number that witx gives the errno.
-    pub fn number(self) -> u16
-        ensures { result ≡ errno_number self }
-    {
-        self as u16
+// The number that witx gives the errno.
+impl From<Errno> for u16 {
+    ghost from_gives = { λ errno r. r ≡ errno_number errno };
+
+    fn from(errno: Errno) -> u16 {
+        errno as u16
     }
 }
 
 // The codes with which a host refuses.
-#[derive(Clone, Copy)]
+#[derive(Clone, Copy, Debug, PartialEq, Eq)]
 pub enum ErrorCode {
     Access,
     BadDescriptor,
@@ -81,13 +83,13 @@ impl From<ErrorCode> for Errno {
 }
 
 // Why a guest is stopped: it named memory that it does not have, or a host could not let a handle go.
-#[derive(Clone, Copy)]
+#[derive(Clone, Copy, Debug, PartialEq, Eq)]
 pub enum TrapCause {
     Pointer,
     Drop,
 }
 
-#[derive(Clone, Copy)]
+#[derive(Clone, Copy, Debug, PartialEq, Eq)]
 pub enum Error {
     Errno(Errno),
     Trap(TrapCause),
@@ -106,5 +108,29 @@ impl From<ErrorCode> for Error {
 
     fn from(code: ErrorCode) -> Error {
         Error::Errno(Errno::from(code))
+    }
+}
+
+impl fmt::Display for Errno {
+    fn fmt<W: fmt::Write>(&self, f: &mut fmt::Formatter<W>) -> fmt::Result {
+        write!(f, "errno {}", u16::from(*self))
+    }
+}
+
+impl fmt::Display for TrapCause {
+    fn fmt<W: fmt::Write>(&self, f: &mut fmt::Formatter<W>) -> fmt::Result {
+        f.write_str(match self {
+            TrapCause::Pointer => "trap pointer",
+            TrapCause::Drop => "trap drop",
+        })
+    }
+}
+
+impl fmt::Display for Error {
+    fn fmt<W: fmt::Write>(&self, f: &mut fmt::Formatter<W>) -> fmt::Result {
+        match self {
+            Error::Errno(told) => write!(f, "{told}"),
+            Error::Trap(cause) => write!(f, "{cause}"),
+        }
     }
 }

@@ -7,7 +7,7 @@ ghost use Rattle.memory.specs.Ranges.{checked, told};
 use errno::{Errno, Error, TrapCause};
 
 // What is wrong with what a guest named in its memory.
-#[derive(Clone, Copy)]
+#[derive(Clone, Copy, Debug, PartialEq, Eq)]
 pub enum GuestError {
     PtrOutOfBounds,
     PtrNotAligned,
@@ -27,7 +27,7 @@ impl From<GuestError> for Error {
 }
 
 // `len` bytes from an address on.
-#[derive(Clone, Copy)]
+#[derive(Clone, Copy, Debug, PartialEq, Eq)]
 pub struct Region {
     pub ptr: u32,
     pub len: u32,

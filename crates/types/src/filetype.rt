@@ -2,7 +2,7 @@
 ghost use Rattle.std.specs.Prelude.{◌≡◌};
 ghost use Rattle.types.specs.Numbers.{filetype_number, filetype_of};
 
-#[derive(Clone, Copy)]
+#[derive(Clone, Copy, Debug, PartialEq, Eq)]
 pub enum Filetype {
     Unknown = 0,
     BlockDevice = 1,
@@ -12,18 +12,20 @@ pub enum Filetype {
     SymbolicLink = 7,
 }
 
-impl Filetype {
-    // The number that witx gives the type.
-    pub fn number(self) -> u8
-        ensures { result ≡ filetype_number self }
-    {
-        self as u8
-    }
+// The number that witx gives the type.
+impl From<Filetype> for u8 {
+    ghost from_gives = { λ filetype r. r ≡ filetype_number filetype };
 
-    // The type with that number. Any other number is a type that is not among ours: unknown.
-    pub fn from_number(number: u8) -> Filetype
-        ensures { result ≡ filetype_of number }
-    {
+    fn from(filetype: Filetype) -> u8 {
+        filetype as u8
+    }
+}
+
+// The type with that number. Any other number is a type that is not among ours: unknown.
+impl From<u8> for Filetype {
+    ghost from_gives = { λ number r. r ≡ filetype_of number };
+
+    fn from(number: u8) -> Filetype {
         match number {
             1 => Filetype::BlockDevice,
             2 => Filetype::CharacterDevice,

@@ -1,11 +1,36 @@
 // Flags and rights: integers whose low bits have names. A guest's word passes only if it has no other bit.
-ghost use Rattle.std.specs.Prelude.{◌≡◌, ◌^◌};
+ghost use Rattle.std.specs.Prelude.{◌≡◌, ℕ, ◌^◌, ◌<◌};
 ghost use Rattle.types.specs.Words.{Taken, contains as contains_all};
 
 use errno::Errno;
 
+pub trait Flags: Copy {
+    ghost bits: { Self → ℕ };
+
+    fn bits(self) -> u64
+        ensures { result ≡ bits self };
+
+    // Whether every bit of the other is set.
+    final fn contains(self, other: Self) -> bool
+        ensures { result ≡ contains_all (bits self) (bits other) }
+    {
+        self.bits() & other.bits() == other.bits()
+    }
+}
+
+// A guest's word, of which none but the lowest `NAMED` bits may be set.
+fn named<const NAMED: u32>(word: u64) -> Result<u64, Errno>
+    requires { NAMED < 64 }
+    ensures { Taken (λ bits. bits) (2 ^ NAMED) word result }
+{
+    if word >> NAMED != 0 {
+        return Err(Errno::Inval);
+    }
+    Ok(word)
+}
+
 // How an opening is read and written.
-#[derive(Clone, Copy)]
+#[derive(Clone, Copy, Debug, PartialEq, Eq)]
 pub struct Fdflags(pub u16);
 
 impl Fdflags {
@@ -26,15 +51,12 @@ impl TryFrom<u32> for Fdflags {
     ghost try_from_gives = { λ word r. Taken (λ flags. flags.0) (2 ^ 5) word r };
 
     fn try_from(word: u32) -> Result<Fdflags, Errno> {
-        if word >> 5 != 0 {
-            return Err(Errno::Inval);
-        }
-        Ok(Fdflags(word as u16))
+        Ok(Fdflags(named::<5>(word as u64)? as u16))
     }
 }
 
 // What opening a path does beside opening it.
-#[derive(Clone, Copy)]
+#[derive(Clone, Copy, Debug, PartialEq, Eq)]
 pub struct Oflags(pub u16);
 
 impl Oflags {
@@ -45,11 +67,13 @@ impl Oflags {
     pub const EXCL: Oflags = Oflags(1 << 2);
 
     pub const TRUNC: Oflags = Oflags(1 << 3);
+}
 
-    pub fn contains(self, other: Oflags) -> bool
-        ensures { result ≡ contains_all self.0 other.0 }
-    {
-        self.0 & other.0 == other.0
+impl Flags for Oflags {
+    ghost bits = { λ flags. flags.0 };
+
+    fn bits(self) -> u64 {
+        self.0 as u64
     }
 }
 
@@ -59,15 +83,12 @@ impl TryFrom<u32> for Oflags {
     ghost try_from_gives = { λ word r. Taken (λ flags. flags.0) (2 ^ 4) word r };
 
     fn try_from(word: u32) -> Result<Oflags, Errno> {
-        if word >> 4 != 0 {
-            return Err(Errno::Inval);
-        }
-        Ok(Oflags(word as u16))
+        Ok(Oflags(named::<4>(word as u64)? as u16))
     }
 }
 
 // How a path is resolved.
-#[derive(Clone, Copy)]
+#[derive(Clone, Copy, Debug, PartialEq, Eq)]
 pub struct Lookupflags(pub u32);
 
 impl Lookupflags {
@@ -80,15 +101,12 @@ impl TryFrom<u32> for Lookupflags {
     ghost try_from_gives = { λ word r. Taken (λ flags. flags.0) (2 ^ 1) word r };
 
     fn try_from(word: u32) -> Result<Lookupflags, Errno> {
-        if word >> 1 != 0 {
-            return Err(Errno::Inval);
-        }
-        Ok(Lookupflags(word))
+        Ok(Lookupflags(named::<1>(word as u64)? as u32))
     }
 }
 
 // How a host opens a file or a directory, and what it tells of one.
-#[derive(Clone, Copy)]
+#[derive(Clone, Copy, Debug, PartialEq, Eq)]
 pub struct DescriptorFlags(pub u8);
 
 impl DescriptorFlags {
@@ -101,16 +119,18 @@ impl DescriptorFlags {
     pub const DATA_INTEGRITY_SYNC: DescriptorFlags = DescriptorFlags(1 << 3);
 
     pub const REQUESTED_WRITE_SYNC: DescriptorFlags = DescriptorFlags(1 << 4);
+}
 
-    pub fn contains(self, other: DescriptorFlags) -> bool
-        ensures { result ≡ contains_all self.0 other.0 }
-    {
-        self.0 & other.0 == other.0
+impl Flags for DescriptorFlags {
+    ghost bits = { λ flags. flags.0 };
+
+    fn bits(self) -> u64 {
+        self.0 as u64
     }
 }
 
 // What may be done through an opening.
-#[derive(Clone, Copy)]
+#[derive(Clone, Copy, Debug, PartialEq, Eq)]
 pub struct Rights(pub u64);
 
 impl Rights {
@@ -181,9 +201,6 @@ impl TryFrom<u64> for Rights {
     ghost try_from_gives = { λ word r. Taken (λ rights. rights.0) (2 ^ 30) word r };
 
     fn try_from(word: u64) -> Result<Rights, Errno> {
-        if word >> 30 != 0 {
-            return Err(Errno::Inval);
-        }
-        Ok(Rights(word))
+        Ok(Rights(named::<30>(word)?))
     }
 }

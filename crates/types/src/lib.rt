@@ -6,13 +6,13 @@ mod flags;
 mod whence;
 
 pub use filetype::Filetype;
-pub use flags::{DescriptorFlags, Fdflags, Lookupflags, Oflags, Rights};
+pub use flags::{DescriptorFlags, Fdflags, Flags, Lookupflags, Oflags, Rights};
 pub use whence::Whence;
 
 // A descriptor number, as a guest knows an opening.
-#[derive(Clone, Copy)]
+#[derive(Clone, Copy, Debug, PartialEq, Eq)]
 pub struct Fd(pub u32);
 
 // A host's name for something that it holds open. No guest ever sees one.
-#[derive(Clone, Copy)]
+#[derive(Clone, Copy, Debug, PartialEq, Eq)]
 pub struct Handle(pub u32);

@@ -4,7 +4,7 @@ ghost use Rattle.types.specs.Words.{Taken};
 
 use errno::Errno;
 
-#[derive(Clone, Copy)]
+#[derive(Clone, Copy, Debug, PartialEq, Eq)]
 pub enum Whence {
     Set = 0,
     Cur = 1,

@@ -97,10 +97,8 @@ mod tests {
             Rights::SOCK_SHUTDOWN,
             Rights::SOCK_ACCEPT,
         ];
-        let mut bit = 1;
-        for right in rights {
-            assert_eq!(rt; right.0, bit);
-            bit = bit.wrapping_mul(2);
+        for (bit, right) in rights.iter().enumerate() {
+            assert_eq!(rt; right.0, 1 << bit);
         }
     }
 
@@ -123,7 +121,7 @@ mod tests {
             (ErrorCode::ReadOnly, 69),
         ];
         for (code, number) in told {
-            assert_eq!(rt; Errno::from(code).number(), number);
+            assert_eq!(rt; u16::from(Errno::from(code)), number);
         }
     }
 }
