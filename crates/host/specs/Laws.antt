@@ -155,19 +155,19 @@ entries_of m None = []
 entries_of m (Some l) = elim l.kind [ file ↦ [] | directory ↦ m.listing l.node | input s ↦ [] | output ↦ [] ]
 
 -- of the entries from the asked one on; only a faulty one, or one that does not exist, is refused
-abbrev pub EntryIs : List Entry → List ℕ → Result DirEntry ErrorCode → List ℕ → Type 0
-EntryIs [] buffer (Ok e) buffer' = ⊥
-EntryIs [] buffer (Err c) buffer' = buffer' ≡ buffer
-EntryIs (readable filetype name serial ∷ entries) buffer (Ok e) buffer' = (e.filetype ≡ filetype) × (e.serial ≡ serial) × (e.name_len ≡ length name) × (buffer' ≡ name ++ drop (length name) buffer)
-EntryIs (readable filetype name serial ∷ entries) buffer (Err c) buffer' = ⊥
-EntryIs (faulty code ∷ entries) buffer (Ok e) buffer' = ⊥
-EntryIs (faulty code ∷ entries) buffer (Err c) buffer' = (c ≡ code) × (buffer' ≡ buffer)
+abbrev pub EntryIs : List Entry → Result DirEntry ErrorCode → Type 0
+EntryIs [] (Ok e) = ⊥
+EntryIs [] (Err c) = Unit {0}
+EntryIs (readable filetype name serial ∷ entries) (Ok e) = (e.filetype ≡ filetype) × (e.serial ≡ serial) × (e.name.items ≡ name)
+EntryIs (readable filetype name serial ∷ entries) (Err c) = ⊥
+EntryIs (faulty code ∷ entries) (Ok e) = ⊥
+EntryIs (faulty code ∷ entries) (Err c) = c ≡ code
 
-abbrev pub EntryAt : Meaning → ℕ → ℕ → List ℕ → Result DirEntry ErrorCode → List ℕ → Meaning → Type 0
-EntryAt m h i buffer r buffer' m' = EntryIs (drop i (entries_of m (m.live h))) buffer r buffer' × (m' ≡ m)
+abbrev pub EntryAt : Meaning → ℕ → ℕ → Result DirEntry ErrorCode → Meaning → Type 0
+EntryAt m h i r m' = EntryIs (drop i (entries_of m (m.live h))) r × (m' ≡ m)
 
 abbrev pub preopens : Start → List Preopen
-preopens s = take s.preopen_count s.preopens
+preopens s = s.preopens.items
 
 -- all handles that a start gives
 abbrev pub given : Start → List ℕ
@@ -185,7 +185,7 @@ Apart (x ∷ xs) = (among x xs ≡ false) × Apart xs
 -- each is a live directory, with a name of at most 255 bytes
 abbrev pub Preopened : Meaning → List Preopen → Type 0
 Preopened m [] = Unit {0}
-Preopened m (p ∷ ps) = ((d : Live) × Stands m p.handle.0 directory d × (m.filetype d.node ≡ Some Directory)) × (p.name_len ≤ 255) × Preopened m ps
+Preopened m (p ∷ ps) = ((d : Live) × Stands m p.handle.0 directory d × (m.filetype d.node ≡ Some Directory)) × (length p.name.items ≤ 255) × Preopened m ps
 
 -- every handle from before has ended, and the given ones are live; all else stays
 pub record Started (m : Meaning) (s : Start) (m' : Meaning) : Type 0 where
@@ -193,7 +193,7 @@ pub record Started (m : Meaning) (s : Start) (m' : Meaning) : Type 0 where
   pub stdout : (l : Live) × Stands m' s.stdout.handle.0 output l
   pub stderr : (l : Live) × Stands m' s.stderr.handle.0 output l
   pub directories : Preopened m' (preopens s)
-  pub few : s.preopen_count ≤ 8
+  pub few : length (preopens s) ≤ 8
   pub apart : Apart (given s)
   pub only : (h : ℕ) → among h (given s) ≡ false → m'.live h ≡ None
   pub rest : m' ≡ with_handles m m'.live

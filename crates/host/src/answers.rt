@@ -1,16 +1,20 @@
 // What a host answers beside numbers and codes.
+use arrayvec::ArrayVec;
 use errno::ErrorCode;
 use types::{DescriptorFlags, Filetype, Handle};
 
+// The bytes of a name, as many as there may be.
+pub type Name = ArrayVec<u8, 255>;
+
 // Why a stream brings nothing: it has ended, or the host refused.
-#[derive(Clone, Copy)]
+#[derive(Clone, Copy, Debug, PartialEq, Eq)]
 pub enum StreamError {
     Closed,
     LastOperationFailed(ErrorCode),
 }
 
 // What a host tells of a file or a directory. A directory has no bytes, and so the size 0.
-#[derive(Clone, Copy)]
+#[derive(Clone, Copy, Debug, PartialEq, Eq)]
 pub struct Stat {
     pub filetype: Filetype,
     pub flags: DescriptorFlags,
@@ -19,38 +23,35 @@ pub struct Stat {
 }
 
 // The host reports a fault in letting a handle go. It is gone all the same.
-#[derive(Clone, Copy)]
+#[derive(Clone, Copy, Debug, PartialEq, Eq)]
 pub struct DropFault;
 
-// An entry of a directory. Its name is in the buffer that was lent for it.
-#[derive(Clone, Copy)]
+#[derive(Clone, Debug, PartialEq, Eq, Drop)]
 pub struct DirEntry {
     pub filetype: Filetype,
     pub serial: u64,
-    pub name_len: usize,
+    pub name: Name,
 }
 
 // One of the three streams that every context has.
-#[derive(Clone, Copy)]
+#[derive(Clone, Copy, Debug, PartialEq, Eq)]
 pub struct StandardStream {
     pub handle: Handle,
     pub terminal: bool,
 }
 
 // A directory that is open from the start, under a name for the guest.
-#[derive(Clone, Copy)]
+#[derive(Clone, Debug, Default, PartialEq, Eq, Drop)]
 pub struct Preopen {
     pub handle: Handle,
-    pub name: [u8; 255],
-    pub name_len: usize,
+    pub name: Name,
 }
 
-// What a context begins with: the streams, and the first so many of the preopens.
-#[derive(Clone, Copy)]
+// What a context begins with.
+#[derive(Clone, Debug, PartialEq, Eq, Drop)]
 pub struct Start {
     pub stdin: StandardStream,
     pub stdout: StandardStream,
     pub stderr: StandardStream,
-    pub preopens: [Preopen; 8],
-    pub preopen_count: usize,
+    pub preopens: ArrayVec<Preopen, 8>,
 }

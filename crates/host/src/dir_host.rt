@@ -22,14 +22,9 @@ pub trait DirHost: FileHost {
     fn entry_count(&mut self, directory: Handle) -> Result<u32, ErrorCode>
         ensures { EntryCount (Self.meaning self.old) directory.0 result (Self.meaning self.new) };
 
-    // The entry at the index, with its name in the front of the buffer.
-    fn entry(
-        &mut self,
-        directory: Handle,
-        index: u32,
-        name: &mut [u8; 255],
-    ) -> Result<DirEntry, ErrorCode>
-        ensures { EntryAt (Self.meaning self.old) directory.0 index name.old result name.new (Self.meaning self.new) };
+    // The entry at the index.
+    fn entry(&mut self, directory: Handle, index: u32) -> Result<DirEntry, ErrorCode>
+        ensures { EntryAt (Self.meaning self.old) directory.0 index result (Self.meaning self.new) };
 
     // Ends all handles and gives those that a new context begins with.
     fn start(&mut self) -> Start

@@ -7,7 +7,7 @@ mod dir_host;
 mod file_host;
 mod token;
 
-pub use answers::{DirEntry, DropFault, Preopen, StandardStream, Start, Stat, StreamError};
+pub use answers::{DirEntry, DropFault, Name, Preopen, StandardStream, Start, Stat, StreamError};
 pub use dir_host::DirHost;
 pub use file_host::FileHost;
 pub use token::{FileStream, Fresh, NodeKind};

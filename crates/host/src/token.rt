@@ -7,7 +7,7 @@ use crate::file_host::FileHost;
 use types::Handle;
 
 // What an opening has opened.
-#[derive(Clone, Copy)]
+#[derive(Clone, Copy, Debug, PartialEq, Eq)]
 pub enum NodeKind {
     File,
     Directory,

@@ -67,30 +67,29 @@ no_entries : (m : Meaning) (h : ℕ) (b : Bool) → entries_of m (live_if h b) �
 no_entries m h false = refl
 no_entries m h true = cond_both (eqb h 0) (input queue) output (λ k. entries_of m (Some (record { kind = k; node = h; flags = record { 0 = 0 } })) ≡ []) (λ e. refl) (λ e. refl)
 
-pub entry_law : (g : Grudging) (h i : ℕ) (buffer : List ℕ) (c : ErrorCode) → EntryAt (meaning_of g) h i buffer (Err c) buffer (meaning_of g)
-entry_law g h i buffer c = (subst (λ es. EntryIs es buffer (Err c) buffer) (sym (ap (drop i) (no_entries (meaning_of g) h (get_or g.live h false)) ∙ drop_all i [] (omega arith))) refl, refl)
+pub entry_law : (g : Grudging) (h i : ℕ) (c : ErrorCode) → EntryAt (meaning_of g) h i (Err c) (meaning_of g)
+entry_law g h i c = (subst (λ es. EntryIs es (Err c)) (sym (ap (drop i) (no_entries (meaning_of g) h (get_or g.live h false)) ∙ drop_all i [] (omega arith))) tt, refl)
 
 -- behind the first three, none is live
 rest : (h : ℕ) → among h (0 ∷ 1 ∷ 2 ∷ []) ≡ false → live_if h (get_or (true ∷ true ∷ true ∷ []) h false) ≡ None
-rest zero e = absurd (let z : ◌≡◌ {A = ℕ} 0 1 = cc in omega (arith, z))
-rest (suc zero) e = absurd (let z : ◌≡◌ {A = ℕ} 0 1 = cc in omega (arith, z))
-rest (suc (suc zero)) e = absurd (let z : ◌≡◌ {A = ℕ} 0 1 = cc in omega (arith, z))
+rest zero e = cc
+rest (suc zero) e = cc
+rest (suc (suc zero)) e = cc
 rest (suc (suc (suc h))) e = refl
 
 abbrev started : Grudging → Grudging
 started g = record { code = g.code; live = true ∷ true ∷ true ∷ []; waiting = g.waiting }
 
-pub start_law : (g : Grudging) (r : Start) → r.stdin.handle.0 ≡ 0 → r.stdout.handle.0 ≡ 1 → r.stderr.handle.0 ≡ 2 → r.preopen_count ≡ 0 → Started (meaning_of g) r (meaning_of (started g))
-start_law g r in_is out-is err-is none =
+pub start_law : (g : Grudging) (r : Start) → r.stdin.handle.0 ≡ 0 → r.stdout.handle.0 ≡ 1 → r.stderr.handle.0 ≡ 2 → preopens r ≡ [] → Started (meaning_of g) r (meaning_of (started g))
+start_law g r in_is out_is err_is empty =
     let m : Meaning = meaning_of (started g) in
-    let empty : preopens r ≡ [] = ap (λ n. take n r.preopens) none in
-    let handles : given r ≡ 0 ∷ 1 ∷ 2 ∷ [] = λ i. in_is i ∷ out-is i ∷ err-is i ∷ map (λ (p : Preopen). p.handle.0) (empty i) in
+    let handles : given r ≡ 0 ∷ 1 ∷ 2 ∷ [] = λ i. in_is i ∷ out_is i ∷ err_is i ∷ map (λ (p : Preopen). p.handle.0) (empty i) in
     record {
       stdin = (_, (ap m.live in_is, refl));
-      stdout = (_, (ap m.live out-is, refl));
-      stderr = (_, (ap m.live err-is, refl));
+      stdout = (_, (ap m.live out_is, refl));
+      stderr = (_, (ap m.live err_is, refl));
       directories = subst (λ ps. Preopened m ps) (sym empty) tt;
-      few = omega (arith, none);
+      few = omega (arith, ap length empty);
       apart = subst Apart (sym handles) (refl, (refl, (refl, tt)));
       only = λ h e. rest h (ap (among h) (sym handles) ∙ e);
       rest = refl;

@@ -2,10 +2,11 @@
 ghost use Rattle.std.specs.Prelude.{◌≡◌};
 ghost use Rattle.host_tests.specs.Grudging.{meaning_of, bounds};
 
+use arrayvec::ArrayVec;
 use errno::ErrorCode;
 use host::{
-    DirEntry, DirHost, DropFault, FileHost, FileStream, Fresh, Preopen, StandardStream, Start,
-    Stat, StreamError,
+    DirEntry, DirHost, DropFault, FileHost, FileStream, Fresh, StandardStream, Start, Stat,
+    StreamError,
 };
 use types::{DescriptorFlags, Handle, Lookupflags, Oflags};
 
@@ -68,9 +69,10 @@ impl FileHost for Grudging {
     }
 
     fn drop_handle(&mut self, handle: Handle) -> Result<(), DropFault> {
-        let live = &mut self.live[..];
-        if (handle.0 as usize) < live.len() {
-            live[handle.0 as usize] = false;
+        // Of a slice that was changed through `get_mut`, no proof knows the elements.
+        let index = handle.0 as usize;
+        if index < self.live.len() {
+            self.live[index] = false;
         }
         Err(DropFault)
     }
@@ -92,38 +94,22 @@ impl DirHost for Grudging {
         Err(self.code)
     }
 
-    fn entry(
-        &mut self,
-        _directory: Handle,
-        _index: u32,
-        _name: &mut [u8; 255],
-    ) -> Result<DirEntry, ErrorCode> {
+    fn entry(&mut self, _directory: Handle, _index: u32) -> Result<DirEntry, ErrorCode> {
         Err(self.code)
     }
 
     fn start(&mut self) -> Start {
         self.live = [true, true, true];
-        let none = Preopen {
-            handle: Handle(0),
-            name: [0; 255],
-            name_len: 0,
+        let terminal = |handle: u32| StandardStream {
+            handle: Handle(handle),
+            terminal: true,
         };
         Start {
             stdin: terminal(0),
             stdout: terminal(1),
             stderr: terminal(2),
-            preopens: [none; 8],
-            preopen_count: 0,
+            preopens: ArrayVec::new(),
         }
-    }
-}
-
-fn terminal(handle: u32) -> StandardStream
-    ensures { result.handle.0 ≡ handle }
-{
-    StandardStream {
-        handle: Handle(handle),
-        terminal: true,
     }
 }
 
@@ -139,32 +125,26 @@ mod tests {
         }
     }
 
-    fn is_closed(answer: Result<usize, StreamError>) -> bool {
-        match answer {
-            Err(StreamError::Closed) => true,
-            _ => false,
-        }
-    }
-
-    fn is_refused(answer: Result<usize, StreamError>) -> bool {
-        match answer {
-            Err(StreamError::LastOperationFailed(ErrorCode::Interrupted)) => true,
-            _ => false,
-        }
-    }
+    // What it answers to every read that it refuses.
+    const REFUSED: Result<usize, StreamError> = Err(StreamError::LastOperationFailed(
+        ErrorCode::Interrupted,
+    ));
 
     #[test]
     fn one_byte_at_a_time(rt: HostRuntime) {
         let mut host = host();
         let start = host.start();
-        assert_eq!(rt; start.preopen_count, 0);
+        assert_eq!(rt; start.preopens.len(), 0);
         let stdin = start.stdin.handle;
         let mut buffer: [u8; 3] = [255; 3];
-        assert_eq!(rt; host.read_stream(stdin, &mut buffer[..]).unwrap_or(9), 1);
+        assert_eq!(rt; host.read_stream(stdin, &mut buffer), Ok(1));
         assert_eq!(rt; buffer, [0, 255, 255]);
-        assert_eq!(rt; host.read_stream(stdin, &mut buffer[..]).unwrap_or(9), 1);
+        assert_eq!(rt; host.read_stream(stdin, &mut buffer), Ok(1));
         assert_eq!(rt; buffer, [0, 255, 255]);
-        assert!(rt; is_closed(host.read_stream(stdin, &mut buffer[..])));
+        assert_eq!(rt;
+            host.read_stream(stdin, &mut buffer),
+            Err(StreamError::Closed)
+        );
         assert_eq!(rt; buffer, [0, 255, 255]);
     }
 
@@ -172,15 +152,14 @@ mod tests {
     fn refusals_and_faults(rt: HostRuntime) {
         let mut host = host();
         let mut buffer: [u8; 3] = [255; 3];
-        assert!(rt; is_refused(host.read_stream(Handle(0), &mut buffer[..])));
+        assert_eq!(rt; host.read_stream(Handle(0), &mut buffer), REFUSED);
         let start = host.start();
-        let refused = match host.write_stream(start.stdout.handle, b"ab") {
-            Err(ErrorCode::Interrupted) => true,
-            _ => false,
-        };
-        assert!(rt; refused);
-        assert!(rt; host.drop_handle(start.stdin.handle).is_err());
-        assert!(rt; is_refused(host.read_stream(start.stdin.handle, &mut buffer[..])));
+        assert_eq!(rt;
+            host.write_stream(start.stdout.handle, b"ab"),
+            Err(ErrorCode::Interrupted)
+        );
+        assert_eq!(rt; host.drop_handle(start.stdin.handle), Err(DropFault));
+        assert_eq!(rt; host.read_stream(start.stdin.handle, &mut buffer), REFUSED);
         assert_eq!(rt; buffer, [255, 255, 255]);
     }
 }

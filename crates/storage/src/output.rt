@@ -1,11 +1,28 @@
-// What an output has taken: up to 8,192 bytes.
-ghost use Rattle.std.specs.Prelude.{◌≤◌};
+// What an output has taken.
+ghost use Rattle.std.specs.Prelude.{◌≡◌, ◌+◌, ◌≤◌, ◌↔◌, [], ◌++◌, length, IsOk, OnOk, OnErr};
 
-mod uses;
+use arrayvec::{ArrayVec, CapacityError};
 
-#[derive(Clone, Copy)]
+#[derive(Clone, Debug, Default, PartialEq, Eq, Drop)]
 pub struct Output {
-    bytes: [u8; 8192],
-    len: usize,
-    ghost fits: { len ≤ 8192 },
+    pub taken: ArrayVec<u8, 8192>,
+}
+
+impl Output {
+    pub fn new() -> Output
+        ensures { result.taken.items ≡ [] }
+    {
+        Output {
+            taken: ArrayVec::new(),
+        }
+    }
+
+    // Takes the whole piece, or none of it if it does not fit.
+    pub fn write(&mut self, piece: &[u8]) -> Result<(), CapacityError>
+        ensures fits { IsOk result ↔ (length self.old.taken.items + length piece.now ≤ 8192) }
+        ensures ok { OnOk result (self.new.taken.items ≡ self.old.taken.items ++ piece.now) }
+        ensures err { OnErr result (self.new ≡ self.old) }
+    {
+        self.taken.try_extend_from_slice(piece)
+    }
 }

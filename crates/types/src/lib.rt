@@ -14,5 +14,5 @@ pub use whence::Whence;
 pub struct Fd(pub u32);
 
 // A host's name for something that it holds open. No guest ever sees one.
-#[derive(Clone, Copy, Debug, PartialEq, Eq)]
+#[derive(Clone, Copy, Debug, Default, PartialEq, Eq)]
 pub struct Handle(pub u32);

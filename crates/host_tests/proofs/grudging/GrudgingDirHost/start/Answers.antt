@@ -1,6 +1,6 @@
-use Rattle.std.proofs.Common.{refl}
 use Rattle.host_tests.proofs.Grudges.{start_law}
+use Rattle.std.proofs.Common.{rules}
 use Rattle.host_tests.proofs.grudging.GrudgingDirHost.start.Goals as goal
 
 pub returns : goal.returns
-returns c = start_law c.args.self.now _ c.terminal.ensures c.terminal-2.ensures c.terminal-3.ensures refl
+returns c = start_law c.args.self.now _ (search rules) (search rules) (search rules) c.new.ensures
