@@ -1,4 +1,3 @@
-pub mod First
 pub mod Slots
 pub mod Names
 pub mod Lives

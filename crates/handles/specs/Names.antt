@@ -1,5 +1,6 @@
 -- Which paths name the directory itself, and which can name a file in it.
-use Rattle.std.specs.Prelude.{ℕ, Bool, true, false, cond, not, ◌&&◌, List, [], ◌∷◌, length, ◌==◌, nat_le, nat_lt, slice_index}
+use Rattle.std.specs.Prelude.{ℕ, Bool, not, ◌&&◌, List, length, ◌==◌, nat_le, nat_lt, slice_index}
+use Rattle.std.specs.List.{list_any}
 
 -- the path of the directory itself
 abbrev pub is_dot : List ℕ → Bool
@@ -9,8 +10,7 @@ abbrev pub slash : ℕ
 slash = 47
 
 abbrev pub has_slash : List ℕ → Bool
-has_slash [] = false
-has_slash (b ∷ bytes) = cond (b == slash) true (has_slash bytes)
+has_slash path = list_any (λ b. b == slash) path
 
 -- 1 to 32 bytes, none of them a slash
 abbrev pub is_name : List ℕ → Bool

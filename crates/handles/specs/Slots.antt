@@ -1,11 +1,11 @@
 -- What is behind a handle, and which one is free.
 use Rattle.std.specs.Prelude.{◌≡◌, ℕ, Bool, true, false, cond, List, Some, None, Ok, Err, Option, Result, slice_index_or}
+use Rattle.std.specs.List.{position_from}
 use Rattle.errno.specs.declared.ErrorCode.{ErrorCode}
 use Rattle.errno.specs.declared.ErrorCode.TheVariants.{BadDescriptor}
 use Rattle.types.specs.declared.Handle.{Handle}
 use Rattle.types.specs.declared.flags.DescriptorFlags.{DescriptorFlags}
 use Rattle.types.specs.Words.{contains}
-use Rattle.handles.specs.First.{first}
 use Rattle.handles.specs.declared.file_number.FileNumber.{FileNumber}
 use Rattle.handles.specs.declared.open.Node.TheVariants.{Directory, File}
 use Rattle.handles.specs.declared.open.Opened.{Opened}
@@ -56,7 +56,7 @@ is_free Stdout = false
 is_free Stderr = false
 
 abbrev pub first_free : List Open → Option ℕ
-first_free slots = first is_free 0 slots
+first_free slots = position_from is_free 0 slots
 
 abbrev pub FirstFree : List Open → Option Handle → Type 0
 FirstFree slots (Some h) = first_free slots ≡ Some h.0

@@ -1,5 +1,5 @@
 -- What is open from the start.
-use Rattle.std.specs.Prelude.{◌≡◌, ℕ, false, List, [], ◌∷◌, take, replicate}
+use Rattle.std.specs.Prelude.{◌≡◌, ℕ, false, List, [], ◌∷◌, replicate}
 use Rattle.host.specs.declared.answers.StandardStream.{StandardStream}
 use Rattle.host.specs.declared.answers.Preopen.{Preopen}
 use Rattle.host.specs.declared.answers.Start.{Start}
@@ -21,4 +21,4 @@ abbrev pub Standard : StandardStream → ℕ → Type 0
 Standard stream h = (stream.handle.0 ≡ h) × (stream.terminal ≡ false)
 
 abbrev pub Gives : Start → Type 0
-Gives r = Standard r.stdin 0 × Standard r.stdout 1 × Standard r.stderr 2 × (r.preopen_count ≡ 1) × ((p : Preopen) × (preopens r ≡ p ∷ []) × (p.handle.0 ≡ 3) × (p.name_len ≡ 1) × (take 1 p.name ≡ slash ∷ []))
+Gives r = Standard r.stdin 0 × Standard r.stdout 1 × Standard r.stderr 2 × ((p : Preopen) × (preopens r ≡ p ∷ []) × (p.handle.0 ≡ 3) × (p.name.items ≡ slash ∷ []))

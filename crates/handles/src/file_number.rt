@@ -1,7 +1,7 @@
 // Which of a host's eight files.
-ghost use Rattle.std.specs.Prelude.{◌≡◌, ◌<◌, ◌≤◌, Some, None};
+ghost use Rattle.std.specs.Prelude.{◌≡◌, ◌<◌, ◌↔◌, IsSome, IfSome};
 
-#[derive(Clone, Copy)]
+#[derive(Clone, Copy, Debug, PartialEq, Eq)]
 pub struct FileNumber {
     number: usize,
     ghost small: { number < 8 },
@@ -9,7 +9,8 @@ pub struct FileNumber {
 
 impl FileNumber {
     pub fn new(number: usize) -> Option<FileNumber>
-        ensures { elim result [ Some f ↦ f.number ≡ number | None ↦ 8 ≤ number ] }
+        ensures some { IsSome result ↔ (number < 8) }
+        ensures value { IfSome result (λ f. f.number ≡ number) }
     {
         if number >= 8 {
             return None;
@@ -18,7 +19,8 @@ impl FileNumber {
     }
 
     pub fn get(self) -> usize
-        ensures { (result ≡ self.number) × (result < 8) }
+        ensures value { result ≡ self.number }
+        ensures small { result < 8 }
     {
         self.number
     }

@@ -6,9 +6,9 @@ ghost use Rattle.handles.specs.Slots.{open_at, opened_at, directory_at, file_at,
 use crate::file_number::FileNumber;
 use crate::open::{Node, Open, Opened};
 use errno::ErrorCode;
-use types::{DescriptorFlags, Handle};
+use types::{DescriptorFlags, Flags, Handle};
 
-#[derive(Drop)]
+#[derive(Debug, PartialEq, Eq, Drop)]
 pub struct Handles {
     pub(crate) slots: [Open; 80],
 }
@@ -25,11 +25,10 @@ impl Handles {
     pub fn get(&self, handle: Handle) -> Open
         ensures { result ≡ open_at self.now.slots handle.0 }
     {
-        let slots = &self.slots[..];
-        if handle.0 as usize >= slots.len() {
-            return Open::Free;
-        }
-        slots[handle.0 as usize]
+        self.slots
+            .get(handle.0 as usize)
+            .copied()
+            .unwrap_or(Open::Free)
     }
 
     // The file or the directory behind the handle.
@@ -38,11 +37,7 @@ impl Handles {
     {
         match self.get(handle) {
             Open::Node(opened) => Ok(opened),
-            Open::Free => Err(ErrorCode::BadDescriptor),
-            Open::Stream(_) => Err(ErrorCode::BadDescriptor),
-            Open::Stdin => Err(ErrorCode::BadDescriptor),
-            Open::Stdout => Err(ErrorCode::BadDescriptor),
-            Open::Stderr => Err(ErrorCode::BadDescriptor),
+            _ => Err(ErrorCode::BadDescriptor),
         }
     }
 
@@ -84,30 +79,17 @@ impl Handles {
     pub fn put(&mut self, handle: Handle, opened: Open)
         ensures { self.new.slots ≡ slice_set self.old.slots handle.0 opened }
     {
-        let slots = &mut self.slots[..];
-        if (handle.0 as usize) < slots.len() {
-            slots[handle.0 as usize] = opened;
+        // Of a slice that was changed through `get_mut`, no proof knows the elements.
+        let index = handle.0 as usize;
+        if index < self.slots.len() {
+            self.slots[index] = opened;
         }
     }
 
     pub fn first_free(&self) -> Option<Handle>
         ensures { FirstFree self.now.slots result }
     {
-        match index_free(&self.slots) {
-            Some(i) => Some(Handle(i as u32)),
-            None => None,
-        }
+        let index = self.slots.iter().position(|slot| slot.is_free())?;
+        Some(Handle(index as u32))
     }
-}
-
-fn index_free(slots: &[Open]) -> Option<usize>
-    ensures { (result ≡ first_free slots.now) × (elim result [ Some i ↦ i < length slots.now | None ↦ Unit {0} ]) }
-{
-    for i in 0..slots.len() {
-        let slot = slots[i];
-        if let Open::Free = slot {
-            return Some(i);
-        }
-    }
-    None
 }

@@ -1,6 +1,6 @@
 // Which paths name the one directory of a host, and which can name a file in it.
 ghost use Rattle.std.specs.Prelude.{◌≡◌};
-ghost use Rattle.handles.specs.Names.{is_dot, is_name, has_slash};
+ghost use Rattle.handles.specs.Names.{is_dot, is_name};
 
 pub fn is_dot(path: &[u8]) -> bool
     ensures { result ≡ is_dot path.now }
@@ -11,16 +11,5 @@ pub fn is_dot(path: &[u8]) -> bool
 pub fn is_name(path: &[u8]) -> bool
     ensures { result ≡ is_name path.now }
 {
-    !path.is_empty() && path.len() <= 32 && !holds_slash(path)
-}
-
-fn holds_slash(path: &[u8]) -> bool
-    ensures { result ≡ has_slash path.now }
-{
-    for i in 0..path.len() {
-        if path[i] == b'/' {
-            return true;
-        }
-    }
-    false
+    !path.is_empty() && path.len() <= 32 && !path.contains(&b'/')
 }

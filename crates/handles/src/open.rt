@@ -1,29 +1,31 @@
 // What a handle of a host with one directory of files stands for.
+ghost use Rattle.std.specs.Prelude.{◌≡◌};
+
 use crate::file_number::FileNumber;
 use types::DescriptorFlags;
 
-#[derive(Clone, Copy)]
+#[derive(Clone, Copy, Debug, PartialEq, Eq)]
 pub enum Node {
     Directory,
     File(FileNumber),
 }
 
 // The directory or a file, with the flags that it was opened with.
-#[derive(Clone, Copy)]
+#[derive(Clone, Copy, Debug, PartialEq, Eq)]
 pub struct Opened {
     pub node: Node,
     pub flags: DescriptorFlags,
 }
 
 // A stream on a file, with the file's flags and the place that the stream has come to.
-#[derive(Clone, Copy)]
+#[derive(Clone, Copy, Debug, PartialEq, Eq)]
 pub struct Stream {
     pub file: FileNumber,
     pub flags: DescriptorFlags,
     pub place: u64,
 }
 
-#[derive(Clone, Copy)]
+#[derive(Clone, Copy, Debug, PartialEq, Eq)]
 pub enum Open {
     Free,
     Node(Opened),
@@ -31,4 +33,17 @@ pub enum Open {
     Stdin,
     Stdout,
     Stderr,
+}
+
+impl Open {
+    ghost use Rattle.handles.specs.Slots.{is_free};
+
+    pub fn is_free(&self) -> bool
+        ensures { result ≡ is_free self.now }
+    {
+        match self {
+            Open::Free => true,
+            _ => false,
+        }
+    }
 }

@@ -1,11 +1,12 @@
 // What a host with one directory of files has open from the start: three streams, and its directory as "/".
-ghost use Rattle.std.specs.Prelude.{◌≡◌, false, [], ◌∷◌, take};
+ghost use Rattle.std.specs.Prelude.{◌≡◌, [], ◌∷◌};
 ghost use Rattle.handles.specs.Names.{slash};
 ghost use Rattle.handles.specs.Starts.{started, Gives};
 
 use crate::handles::Handles;
 use crate::open::{Node, Open, Opened};
-use host::{Preopen, StandardStream, Start};
+use arrayvec::ArrayVec;
+use host::{Name, Preopen, StandardStream, Start};
 use types::{DescriptorFlags, Handle};
 
 impl Handles {
@@ -19,37 +20,31 @@ impl Handles {
         self.slots[2] = Open::Stderr;
         let root = Opened {
             node: Node::Directory,
-            flags: DescriptorFlags(3),
+            flags: DescriptorFlags::READ | DescriptorFlags::WRITE,
         };
         self.slots[3] = Open::Node(root);
-        let preopen = Preopen {
+        let no_terminal = |handle: u32| StandardStream {
+            handle: Handle(handle),
+            terminal: false,
+        };
+        let mut preopens = ArrayVec::new();
+        preopens.push(Preopen {
             handle: Handle(3),
             name: root_name(),
-            name_len: 1,
-        };
+        });
         Start {
             stdin: no_terminal(0),
             stdout: no_terminal(1),
             stderr: no_terminal(2),
-            preopens: [preopen; 8],
-            preopen_count: 1,
+            preopens,
         }
     }
 }
 
-fn no_terminal(handle: u32) -> StandardStream
-    ensures { (result.handle.0 ≡ handle) × (result.terminal ≡ false) }
+fn root_name() -> Name
+    ensures { result.items ≡ slash ∷ [] }
 {
-    StandardStream {
-        handle: Handle(handle),
-        terminal: false,
-    }
-}
-
-fn root_name() -> [u8; 255]
-    ensures { take 1 result ≡ slash ∷ [] }
-{
-    let mut name = [0; 255];
-    name[0] = b'/';
+    let mut name = ArrayVec::new();
+    name.push(b'/');
     name
 }

@@ -1,8 +1,9 @@
 // Flags and rights: integers whose low bits have names. A guest's word passes only if it has no other bit.
-ghost use Rattle.std.specs.Prelude.{◌≡◌, ℕ, ◌^◌, ◌<◌};
+ghost use Rattle.std.specs.Prelude.{◌≡◌, ℕ, ◌^◌, ◌<◌, bit_or};
 ghost use Rattle.types.specs.Words.{Taken, contains as contains_all};
 
 use errno::Errno;
+use std::ops::BitOr;
 
 pub trait Flags: Copy {
     ghost bits: { Self → ℕ };
@@ -30,7 +31,7 @@ fn named<const NAMED: u32>(word: u64) -> Result<u64, Errno>
 }
 
 // How an opening is read and written.
-#[derive(Clone, Copy, Debug, PartialEq, Eq)]
+#[derive(Clone, Copy, Debug, Default, PartialEq, Eq)]
 pub struct Fdflags(pub u16);
 
 impl Fdflags {
@@ -56,7 +57,7 @@ impl TryFrom<u32> for Fdflags {
 }
 
 // What opening a path does beside opening it.
-#[derive(Clone, Copy, Debug, PartialEq, Eq)]
+#[derive(Clone, Copy, Debug, Default, PartialEq, Eq)]
 pub struct Oflags(pub u16);
 
 impl Oflags {
@@ -88,7 +89,7 @@ impl TryFrom<u32> for Oflags {
 }
 
 // How a path is resolved.
-#[derive(Clone, Copy, Debug, PartialEq, Eq)]
+#[derive(Clone, Copy, Debug, Default, PartialEq, Eq)]
 pub struct Lookupflags(pub u32);
 
 impl Lookupflags {
@@ -106,7 +107,7 @@ impl TryFrom<u32> for Lookupflags {
 }
 
 // How a host opens a file or a directory, and what it tells of one.
-#[derive(Clone, Copy, Debug, PartialEq, Eq)]
+#[derive(Clone, Copy, Debug, Default, PartialEq, Eq)]
 pub struct DescriptorFlags(pub u8);
 
 impl DescriptorFlags {
@@ -129,8 +130,18 @@ impl Flags for DescriptorFlags {
     }
 }
 
+impl BitOr for DescriptorFlags {
+    type Output = DescriptorFlags;
+
+    ghost bitor_gives = { λ a b r. r.0 ≡ bit_or a.0 b.0 };
+
+    fn bitor(self, other: DescriptorFlags) -> DescriptorFlags {
+        DescriptorFlags(self.0 | other.0)
+    }
+}
+
 // What may be done through an opening.
-#[derive(Clone, Copy, Debug, PartialEq, Eq)]
+#[derive(Clone, Copy, Debug, Default, PartialEq, Eq)]
 pub struct Rights(pub u64);
 
 impl Rights {
