@@ -1,13 +1,15 @@
 -- A list of files, seen by name or by content, when one of them changes.
-use Rattle.std.proofs.Common.{◌≡◌, ℕ, ◌+◌, ◌<◌, ◌≤◌, Bool, true, false, List, [], ◌∷◌, ◌++◌, map, length, get_or, take, set, sym, ap, ◌∙◌, arith}
-use Rattle.std.proofs.lemmas.List.{map-set, get_or-map, set-get_or, take_more_set, length-map, length-take}
+use Rattle.std.proofs.Common.{◌≡◌, ℕ, ◌+◌, ◌<◌, Bool, cond, List, [], ◌∷◌, ◌++◌, map, length, get_or, take, set, Some, Ok, Err, Result, OnOk, OnErr, refl, sym, ap, ◌∙◌, arith}
+use Rattle.std.specs.List.{position_from}
+use Rattle.std.proofs.lemmas.List.{map-set, get_or-map, set-get_or, take_more_set, length-map, length-take, take-map}
 use Rattle.storage.specs.declared.file.File.{File}
-use Rattle.storage.specs.Held.{name_of, content_of, FileWrote}
-use Rattle.host.specs.Laws.{written}
-use Rattle.files.specs.Lists.{WroteTo}
+use Rattle.files.specs.declared.files.Files.{Files}
+use Rattle.files.specs.Lists.{name_of, content_of, names}
 
-pub read_map : (f : File → List ℕ) (xs : List File) (i : ℕ) (x : File) → i < length xs → x ≡ get_or xs i x → f x ≡ get_or (map f xs) i []
-read_map f xs i x h e = ap f e ∙ sym (get_or-map f xs i x [] h)
+-- searching what is seen is searching the list
+pub position_from-map : {X Y : Type 0} (test : Y → Bool) (f : X → Y) (n : ℕ) (xs : List X) → position_from test n (map f xs) ≡ position_from (λ x. test (f x)) n xs
+position_from-map test f n [] = refl
+position_from-map test f n (x ∷ xs) = ap (cond (test (f x)) (Some n)) (position_from-map test f (n + 1) xs)
 
 pub map_put : (f : File → List ℕ) (xs : List File) (i : ℕ) (y : File) (v : List ℕ) → f y ≡ v → map f (set xs i y) ≡ set (map f xs) i v
 map_put f xs i y v e = map-set f xs i y ∙ ap (λ w. set (map f xs) i w) e
@@ -15,21 +17,28 @@ map_put f xs i y v e = map-set f xs i y ∙ ap (λ w. set (map f xs) i w) e
 pub map_kept : (f : File → List ℕ) (xs : List File) (i : ℕ) (x y : File) → i < length xs → f y ≡ f (get_or xs i x) → map f (set xs i y) ≡ map f xs
 map_kept f xs i x y h s = map_put f xs i y (get_or (map f xs) i []) (s ∙ sym (get_or-map f xs i x [] h)) ∙ set-get_or (map f xs) i []
 
-pub wrote : (files : List File) (i offset : ℕ) (bytes : List ℕ) (x y : File) (r : Bool) → i < length files → FileWrote (get_or files i x) offset bytes r y → WroteTo files i offset bytes r (set files i y)
-wrote files i offset bytes x y true h w = (w.0, map_kept name_of files i x y h w.2, map_put content_of files i y _ (w.1 ∙ ap (λ c. written c offset bytes) (sym (get_or-map content_of files i x [] h))))
-wrote files i offset bytes x y false h w = (w.0, map_kept name_of files i x y h w.2, map_kept content_of files i x y h w.1)
+-- the names of those that exist stay, whichever file it is
+pub names_kept : (xs : List File) (count i : ℕ) (x y : File) → i < length xs → name_of y ≡ name_of (get_or xs i x) → map name_of (take count (set xs i y)) ≡ map name_of (take count xs)
+names_kept xs count i x y h s = sym (take-map name_of count (set xs i y)) ∙ ap (take count) (map_kept name_of xs i x y h s) ∙ take-map name_of count xs
 
 -- one file more: its name is the last
-one_more : (f : File → List ℕ) (xs : List File) (i : ℕ) (y : File) (v : List ℕ) → i < length xs → f y ≡ v → take (i + 1) (map f (set xs i y)) ≡ take i (map f xs) ++ v ∷ []
-one_more f xs i y v h e = ap (take (i + 1)) (map_put f xs i y v e) ∙ take_more_set (map f xs) i v (let l = length-map xs f in omega (arith, l))
+pub names_more : (xs : List File) (count : ℕ) (y : File) (name : List ℕ) → count < length xs → name_of y ≡ name → map name_of (take (count + 1) (set xs count y)) ≡ map name_of (take count xs) ++ name ∷ []
+names_more xs count y name h e =
+    sym (take-map name_of (count + 1) (set xs count y))
+    ∙ ap (take (count + 1)) (map_put name_of xs count y name e)
+    ∙ take_more_set (map name_of xs) count name (let l = length-map xs name_of in omega (arith, l))
+    ∙ ap (λ ns. ns ++ name ∷ []) (take-map name_of count xs)
 
-pub created : (xs after : List File) (count number put next : ℕ) (y : File) (name : List ℕ) → count ≤ length xs → number < length xs → number ≡ length (take count (map name_of xs)) → put ≡ number → next ≡ number → after ≡ set xs put y → name_of y ≡ name → content_of y ≡ []
-    → (number ≡ length (take count (map name_of xs))) × (take (next + 1) (map name_of after) ≡ take count (map name_of xs) ++ name ∷ []) × (map content_of after ≡ set (map content_of xs) number [])
-created xs after count number put next y name few h n ep en ea ey ec =
-    let lm = length-map xs name_of in
-    let lt = length-take count (map name_of xs) in
-    let e : number ≡ count = omega (arith, lm, lt) in (
-      n,
-      rw (en, ea, ep, ← e) (one_more name_of xs number y name h ey),
-      rw (ea, ep) (map_put content_of xs number y [] ec),
-    )
+-- one thing follows from either outcome
+pub either : {X E A B C : Type 0} (r : Result X E) → OnOk r A → OnErr r B → (A → C) → (B → C) → C
+either (Ok x) ok err f g = f ok
+either (Err e) ok err f g = g err
+
+-- what was written to a file is its content among all
+pub content_put : (xs : List File) (i j : ℕ) (x y : File) (v : List ℕ → List ℕ) → i < length xs → i ≡ j → content_of y ≡ v (content_of (get_or xs i x)) → map content_of (set xs i y) ≡ set (map content_of xs) j (v (get_or (map content_of xs) j []))
+content_put xs i j x y v h e w =
+    map_put content_of xs i y (v (get_or (map content_of xs) i [])) (w ∙ ap v (sym (get_or-map content_of xs i x [] h)))
+    ∙ ap (λ k. set (map content_of xs) k (v (get_or (map content_of xs) k []))) e
+
+pub names_count : (fs : Files) → length (names fs) ≡ fs.count
+names_count fs = length-map (take fs.count fs.files) name_of ∙ length-take fs.count fs.files ∙ (omega (arith, fs.few, fs.eight))

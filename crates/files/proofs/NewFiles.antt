@@ -1,10 +1,13 @@
 -- A file that is created and then written.
-use Rattle.std.proofs.Common.{◌≡◌, ℕ, ◌+◌, ◌<◌, ◌≤◌, Bool, true, false, ltb, List, [], ◌∷◌, length, get_or, set, refl, ap, ◌∙◌, ⊎_elim, arith, rules}
+use Rattle.std.proofs.Common.{◌≡◌, ◌↔◌, ℕ, ◌<◌, ◌≤◌, false, List, [], ◌∷◌, length, get_or, set, Ok, Err, Result, IsOk, OnOk, refl, ap, ◌∙◌, ⊎_elim, arith, rules}
+use Rattle.std.specs.Result.{is_ok}
+use Rattle.std.proofs.lemmas.Bool.Decides.{nat_tests}
 use Rattle.std.proofs.lemmas.List.{get_or-set_same, get_or_past, set-set, length-set, same_lists, places}
-use Rattle.std.proofs.lemmas.Bool.{cases_lt, and_parts, ltb-true}
+use Rattle.std.proofs.lemmas.Bool.{cases_lt}
+use Rattle.errno.specs.declared.ErrorCode.{ErrorCode}
+use Rattle.arrayvec.specs.declared.errors.CapacityError.{CapacityError}
 use Rattle.host.specs.Laws.{written}
-use Rattle.files.specs.declared.files.Files.{Files}
-use Rattle.files.specs.Lists.{names, contents, Wrote}
+use Rattle.storage.specs.Held.{too_large}
 
 emptied : (xs : List (List ℕ)) (i : ℕ) → get_or (set xs i []) i [] ≡ []
 emptied xs i = ⊎_elim (λ (h : i < length xs). get_or-set_same xs i [] [] h) (λ (h : length xs ≤ i). get_or_past (set xs i []) i [] (let l = length-set xs i [] in omega (arith, l))) (cases_lt i (length xs))
@@ -22,6 +25,11 @@ filed before middle after f n bytes em ea en =
     ∙ set-set before f [] bytes
     ∙ ap (λ k. set before k bytes) en
 
-pub fitted : (fs fs' : Files) (f : ℕ) (bytes : List ℕ) (r : Bool) → length bytes ≤ 2048 → Wrote fs f 0 bytes r fs' → (names fs' ≡ names fs) × (contents fs' ≡ set (contents fs) f (written (get_or (contents fs) f []) 0 bytes))
-fitted fs fs' f bytes true h w = (w.1, w.2)
-fitted fs fs' f bytes false h w = let t = and_parts (ltb 0 (length bytes)) (ltb 2048 (0 + length bytes)) w.0 in absurd (omega (arith, ltb-true 2048 (0 + length bytes) t.1))
+-- a write of no more than a file holds is accepted
+pub wrote_all : {A : Type 0} (wrote : Result (Unit {0}) (CapacityError (Unit {0}))) (told : Result (Unit {0}) ErrorCode) (bytes : List ℕ) → length bytes ≤ 2048 → (IsOk wrote ↔ (too_large 2048 0 bytes ≡ false)) → OnOk wrote A → is_ok told ≡ is_ok wrote → (told ≡ Ok tt) × A
+wrote_all (Ok u) (Ok v) bytes h fits ok same = (refl, ok)
+wrote_all (Ok u) (Err e) bytes h fits ok same = cc
+wrote_all (Err e) told bytes h fits ok same = let no = fits.1 (fitting bytes h) in cc
+  where
+    fitting : (bs : List ℕ) → length bs ≤ 2048 → too_large 2048 0 bs ≡ false
+    fitting bs l = grind (arith, nat_tests)

@@ -1,36 +1,32 @@
 -- The files as lists: the names of those that exist, in order, and the bytes of all eight.
-use Rattle.std.specs.Prelude.{◌≡◌, ℕ, ◌<◌, ◌≤◌, Bool, true, false, cond, ◌⊎◌, List, [], ◌∷◌, ◌++◌, map, length, take, Some, None, Ok, Err, Option, Result, nat_lt, slice_index_or, slice_set}
+use Rattle.std.specs.Prelude.{◌≡◌, ℕ, ◌<◌, ◌≤◌, cond, ◌⊎◌, List, [], ◌∷◌, ◌++◌, map, length, take, Some, None, Ok, Err, Option, Result, nat_lt, slice_index_or, slice_set}
 use Rattle.errno.specs.declared.ErrorCode.{ErrorCode}
 use Rattle.errno.specs.declared.ErrorCode.TheVariants.{Exist, FileTooLarge, NoEntry, InsufficientSpace}
+use Rattle.std.specs.List.{position_from}
 use Rattle.std.specs.Str.{bytes_eq}
-use Rattle.host.specs.Laws.{written}
-use Rattle.handles.specs.First.{first}
 use Rattle.handles.specs.Names.{is_name}
 use Rattle.handles.specs.declared.file_number.FileNumber.{FileNumber}
 use Rattle.storage.specs.declared.file.File.{File}
-use Rattle.storage.specs.Held.{name_of, content_of, too_large}
 use Rattle.files.specs.declared.files.Files.{Files}
 
+abbrev pub name_of : File → List ℕ
+name_of f = f.name.items
+
+abbrev pub content_of : File → List ℕ
+content_of f = f.content.items
+
 abbrev pub names : Files → List (List ℕ)
-names fs = take fs.count (map name_of fs.files)
+names fs = map name_of (take fs.count fs.files)
 
 abbrev pub contents : Files → List (List ℕ)
 contents fs = map content_of fs.files
 
 abbrev pub index_of : List ℕ → List (List ℕ) → Option ℕ
-index_of name ns = first (λ other. bytes_eq other name) 0 ns
+index_of name ns = position_from (λ other. bytes_eq other name) 0 ns
 
 abbrev pub Found : List (List ℕ) → List ℕ → Option FileNumber → Type 0
 Found ns name (Some f) = index_of name ns ≡ Some f.number
 Found ns name None = index_of name ns ≡ None
-
-abbrev pub WroteTo : List File → ℕ → ℕ → List ℕ → Bool → List File → Type 0
-WroteTo files f offset bytes true files' = (too_large 2048 offset bytes ≡ false) × (map name_of files' ≡ map name_of files) × (map content_of files' ≡ slice_set (map content_of files) f (written (slice_index_or (map content_of files) f []) offset bytes))
-WroteTo files f offset bytes false files' = (too_large 2048 offset bytes ≡ true) × (map name_of files' ≡ map name_of files) × (map content_of files' ≡ map content_of files)
-
-abbrev pub Wrote : Files → ℕ → ℕ → List ℕ → Bool → Files → Type 0
-Wrote fs f offset bytes true fs' = (too_large 2048 offset bytes ≡ false) × (names fs' ≡ names fs) × (contents fs' ≡ slice_set (contents fs) f (written (slice_index_or (contents fs) f []) offset bytes))
-Wrote fs f offset bytes false fs' = (too_large 2048 offset bytes ≡ true) × (names fs' ≡ names fs) × (contents fs' ≡ contents fs)
 
 abbrev pub Created : Files → List ℕ → Option FileNumber → Files → Type 0
 Created fs name (Some f) fs' = (f.number ≡ length (names fs)) × (names fs' ≡ names fs ++ name ∷ []) × (contents fs' ≡ slice_set (contents fs) f.number [])

@@ -1,6 +1,10 @@
-use Rattle.std.proofs.Common.{[], take, set, ap, ◌∙◌}
-use Rattle.files.specs.Lists.{contents}
+use Rattle.std.proofs.Common.{[], ap, rules}
+use Rattle.files.specs.Lists.{name_of, content_of}
+use Rattle.files.proofs.Maps.{content_put, names_kept}
 use Rattle.files.proofs.files.Files.clear.Goals as goal
 
-pub returns : goal.returns
-returns c = (ap (take c.args.self.now.count) c.empty.ensures.0, c.empty.ensures.1 ∙ ap (λ i. set (contents c.args.self.now) i []) c.get.ensures.0)
+pub returns-clause-names : goal.returns-clause-names
+returns-clause-names c = names_kept c.args.self.now.files c.args.self.now.count c.get.result c.index-self-get.result _ (search rules) (ap name_of c.clear.ensures)
+
+pub returns-clause-contents : goal.returns-clause-contents
+returns-clause-contents c = content_put c.args.self.now.files c.get.result c.args.file.number c.index-self-get.result _ (λ bytes. []) (search rules) c.get.ensures.value (ap content_of c.clear.ensures)
