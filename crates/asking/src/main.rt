@@ -13,10 +13,6 @@ const NAME: &[u8; 6] = b"speeds";
 
 const RECORDS: &[u8; 8] = b"900 850 ";
 
-const NO_LINKS: Lookupflags = Lookupflags(0);
-
-const BOTH: DescriptorFlags = DescriptorFlags(3);
-
 const START: u64 = 0;
 
 const GAP: u64 = 10;
@@ -25,27 +21,32 @@ const LATER: u64 = 14;
 
 const ROOM: usize = 24;
 
-const LONGEST: usize = 255;
-
 fn refused(rt: &impl Print, code: ErrorCode) -> io::Result<()> {
-    println!(rt; "  refused with errno {}", Errno::from(code).number())
+    println!(rt; "  refused with {}", Errno::from(code))
 }
 
-fn started(rt: &impl Print, start: &Start) -> io::Result<()> {
+fn started(rt: &impl Print, start: &Start, root: Handle) -> io::Result<()> {
     println!(rt;
         "start: streams {}, {} and {}, {} directory at {}",
         start.stdin.handle.0,
         start.stdout.handle.0,
         start.stderr.handle.0,
-        start.preopen_count,
-        start.preopens[0].handle.0,
+        start.preopens.len(),
+        root.0,
     )
 }
 
 // Opens the file, and keeps its handle as a table would.
 fn open(rt: &impl Print, host: &mut MemoryHost, directory: Handle) -> io::Result<Option<Handle>> {
     println!(rt; "open a file below {}, creating it", directory.0)?;
-    match host.open_at(directory, NO_LINKS, NAME, Oflags::CREAT, BOTH) {
+    let flags = DescriptorFlags::READ | DescriptorFlags::WRITE;
+    match host.open_at(
+        directory,
+        Lookupflags::default(),
+        NAME,
+        Oflags::CREAT,
+        flags,
+    ) {
         Ok(fresh) => {
             let (handle, _) = fresh.place();
             println!(rt; "  handle {}", handle.0)?;
@@ -104,17 +105,17 @@ fn stream(rt: &impl Print, host: &mut MemoryHost, file: Handle, offset: u64) -> 
 }
 
 fn list(rt: &impl Print, host: &mut MemoryHost, directory: Handle) -> io::Result<()> {
-    let mut name = [0; LONGEST];
     println!(rt; "the entries of {}", directory.0)?;
     let count = match host.entry_count(directory) {
         Ok(count) => count,
         Err(code) => return refused(rt, code),
     };
     for index in 0..count {
-        match host.entry(directory, index, &mut name) {
+        match host.entry(directory, index) {
             Ok(entry) => println!(rt;
                 "  a name of {} bytes, serial number {}",
-                entry.name_len, entry.serial,
+                entry.name.len(),
+                entry.serial,
             )?,
             Err(code) => refused(rt, code)?,
         }
@@ -141,8 +142,11 @@ fn let_go(rt: &impl Print, host: &mut MemoryHost, file: Handle) -> io::Result<()
 fn main(rt: HostRuntime) -> io::Result<()> {
     let mut host = MemoryHost::new(NO_INPUT);
     let start = host.start();
-    started(&rt, &start)?;
-    let root = start.preopens[0].handle;
+    let Some(preopen) = start.preopens.first() else {
+        return Ok(());
+    };
+    let root = preopen.handle;
+    started(&rt, &start, root)?;
     let Some(file) = open(&rt, &mut host, root)? else {
         return Ok(());
     };

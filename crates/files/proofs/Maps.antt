@@ -1,5 +1,5 @@
 -- A list of files, seen by name or by content, when one of them changes.
-use Rattle.std.proofs.Common.{◌≡◌, ℕ, ◌+◌, ◌<◌, Bool, cond, List, [], ◌∷◌, ◌++◌, map, length, get_or, take, set, Some, Ok, Err, Result, OnOk, OnErr, refl, sym, ap, ◌∙◌, arith}
+use Rattle.std.proofs.Common.{◌≡◌, ℕ, suc, replicate, ◌+◌, ◌<◌, Bool, cond, List, [], ◌∷◌, ◌++◌, map, length, get_or, take, set, Some, refl, sym, ap, ◌∙◌, arith}
 use Rattle.std.specs.List.{position_from}
 use Rattle.std.proofs.lemmas.List.{map-set, get_or-map, set-get_or, take_more_set, length-map, length-take, take-map}
 use Rattle.storage.specs.declared.file.File.{File}
@@ -29,11 +29,6 @@ names_more xs count y name h e =
     ∙ take_more_set (map name_of xs) count name (let l = length-map xs name_of in omega (arith, l))
     ∙ ap (λ ns. ns ++ name ∷ []) (take-map name_of count xs)
 
--- one thing follows from either outcome
-pub either : {X E A B C : Type 0} (r : Result X E) → OnOk r A → OnErr r B → (A → C) → (B → C) → C
-either (Ok x) ok err f g = f ok
-either (Err e) ok err f g = g err
-
 -- what was written to a file is its content among all
 pub content_put : (xs : List File) (i j : ℕ) (x y : File) (v : List ℕ → List ℕ) → i < length xs → i ≡ j → content_of y ≡ v (content_of (get_or xs i x)) → map content_of (set xs i y) ≡ set (map content_of xs) j (v (get_or (map content_of xs) j []))
 content_put xs i j x y v h e w =
@@ -42,3 +37,8 @@ content_put xs i j x y v h e w =
 
 pub names_count : (fs : Files) → length (names fs) ≡ fs.count
 names_count fs = length-map (take fs.count fs.files) name_of ∙ length-take fs.count fs.files ∙ (omega (arith, fs.few, fs.eight))
+
+-- places that all hold a file without bytes
+pub all_empty : (xs : List File) (n : ℕ) → length xs ≡ n → ((i : ℕ) (d : File) → i < length xs → content_of (get_or xs i d) ≡ []) → map content_of xs ≡ replicate n []
+all_empty [] n long empty = ap (λ k. replicate k []) long
+all_empty (x ∷ xs) n long empty = (λ i. empty 0 x (omega arith) i ∷ all_empty xs (length xs) refl (λ k d h. empty (suc k) d (omega (arith, h))) i) ∙ ap (λ k. replicate k []) long

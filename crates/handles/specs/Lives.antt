@@ -1,6 +1,8 @@
 -- What an open handle means. The files are the nodes 0 to 7, by their numbers.
 use Rattle.std.specs.Prelude.{ℕ, List, Some, None, Option}
 use Rattle.types.specs.declared.flags.DescriptorFlags.{DescriptorFlags}
+use Rattle.host.specs.declared.token.NodeKind.{NodeKind}
+use Rattle.host.specs.declared.token.NodeKind.TheVariants.{File as FileNode, Directory as DirectoryNode}
 use Rattle.host.specs.Meaning.{queue, place, Kind, file, directory, input, output, Live}
 use Rattle.handles.specs.declared.open.Open.{Open}
 use Rattle.handles.specs.declared.open.Open.TheVariants.{Free, Node as OpenNode, Stream, Stdin, Stdout, Stderr}
@@ -30,6 +32,10 @@ node_number (File f) = f.number
 abbrev pub node_kind : Node → Kind
 node_kind Directory = directory
 node_kind (File f) = file
+
+abbrev pub opened_kind : Node → NodeKind
+opened_kind Directory = DirectoryNode
+opened_kind (File f) = FileNode
 
 abbrev pub live_of : Open → Option Live
 live_of Free = None

@@ -2,12 +2,26 @@
 ghost use Rattle.std.specs.Prelude.{◌≡◌};
 
 use crate::file_number::FileNumber;
+use host::NodeKind;
 use types::DescriptorFlags;
 
 #[derive(Clone, Copy, Debug, PartialEq, Eq)]
 pub enum Node {
     Directory,
     File(FileNumber),
+}
+
+impl From<Node> for NodeKind {
+    ghost use Rattle.handles.specs.Lives.{opened_kind};
+
+    ghost from_gives = { λ node r. r ≡ opened_kind node };
+
+    fn from(node: Node) -> NodeKind {
+        match node {
+            Node::Directory => NodeKind::Directory,
+            Node::File(_) => NodeKind::File,
+        }
+    }
 }
 
 // The directory or a file, with the flags that it was opened with.

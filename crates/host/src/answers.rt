@@ -1,4 +1,7 @@
 // What a host answers beside numbers and codes.
+ghost use Rattle.std.specs.Prelude.{◌≡◌};
+ghost use Rattle.host.specs.declared.answers.StreamError.TheVariants.{LastOperationFailed};
+
 use arrayvec::ArrayVec;
 use errno::ErrorCode;
 use types::{DescriptorFlags, Filetype, Handle};
@@ -11,6 +14,14 @@ pub type Name = ArrayVec<u8, 255>;
 pub enum StreamError {
     Closed,
     LastOperationFailed(ErrorCode),
+}
+
+impl From<ErrorCode> for StreamError {
+    ghost from_gives = { λ code r. r ≡ LastOperationFailed code };
+
+    fn from(code: ErrorCode) -> StreamError {
+        StreamError::LastOperationFailed(code)
+    }
 }
 
 // What a host tells of a file or a directory. A directory has no bytes, and so the size 0.

@@ -1,5 +1,5 @@
 -- What is answered to an asking of the directory, and what there is after it.
-use Rattle.std.specs.Prelude.{◌≡◌, ℕ, ◌+◌, ◌≤◌, cond, ◌&&◌, ◌||◌, List, [], ◌∷◌, ◌++◌, length, drop, Some, None, Ok, Err, MatchBool, Option, Result, nat_lt, slice_index_or, slice_set}
+use Rattle.std.specs.Prelude.{◌≡◌, ℕ, ◌+◌, ◌≤◌, cond, ◌&&◌, ◌||◌, List, [], ◌∷◌, ◌++◌, length, Some, None, Ok, Err, MatchBool, Option, Result, nat_lt, slice_index_or, slice_set}
 use Rattle.errno.specs.declared.ErrorCode.{ErrorCode}
 use Rattle.errno.specs.declared.ErrorCode.TheVariants.{Exist, IsDirectory, NoEntry, InsufficientSpace, NotDirectory}
 use Rattle.types.specs.declared.Handle.{Handle}
@@ -21,7 +21,7 @@ use Rattle.files.specs.Lists.{Found}
 use Rattle.memory_files.specs.Disk.{Disk, with_content, Outcome}
 use Rattle.memory_files.specs.Askings.{give}
 
--- the entries' number, and the entry at an index with its name in the buffer
+-- the entries' number, and the entry at an index
 abbrev pub count_in : Disk → Result (Unit {0}) ErrorCode → Result ℕ ErrorCode
 count_in d (Ok is) = Ok (length d.names)
 count_in d (Err c) = Err c
@@ -29,15 +29,15 @@ count_in d (Err c) = Err c
 abbrev pub entry_count : Disk → ℕ → Result ℕ ErrorCode
 entry_count d h = count_in d (directory_at d.slots h)
 
-abbrev pub entry_of : List (List ℕ) → ℕ → List ℕ → Result DirEntry ErrorCode × List ℕ
-entry_of names i buffer = cond (nat_lt i (length names)) (let name = slice_index_or names i [] in (Ok (record { filetype = RegularFile; serial = i + 1; name_len = length name }), name ++ drop (length name) buffer)) (Err NoEntry, buffer)
+abbrev pub entry_of : List (List ℕ) → ℕ → Result DirEntry ErrorCode
+entry_of names i = cond (nat_lt i (length names)) (Ok (record { filetype = RegularFile; serial = i + 1; name = record { items = slice_index_or names i [] } })) (Err NoEntry)
 
-abbrev pub entry_in : Disk → Result (Unit {0}) ErrorCode → ℕ → List ℕ → Result DirEntry ErrorCode × List ℕ
-entry_in d (Ok is) i buffer = entry_of d.names i buffer
-entry_in d (Err c) i buffer = (Err c, buffer)
+abbrev pub entry_in : Disk → Result (Unit {0}) ErrorCode → ℕ → Result DirEntry ErrorCode
+entry_in d (Ok is) i = entry_of d.names i
+entry_in d (Err c) i = Err c
 
-abbrev pub entry_at : Disk → ℕ → ℕ → List ℕ → Result DirEntry ErrorCode × List ℕ
-entry_at d h i buffer = entry_in d (directory_at d.slots h) i buffer
+abbrev pub entry_at : Disk → ℕ → ℕ → Result DirEntry ErrorCode
+entry_at d h i = entry_in d (directory_at d.slots h) i
 
 abbrev pub node_of : NodeOf → DescriptorFlags → Open
 node_of node flags = Node (record { node = node; flags = flags })

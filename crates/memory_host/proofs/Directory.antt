@@ -1,6 +1,8 @@
 -- The answers on the directory keep the laws.
 use Rattle.std.proofs.Common.{◌≡◌, ℕ, zero, suc, ◌+◌, ◌<◌, Bool, true, false, cond, ◌&&◌, ◌||◌, T, eqb, ltb, List, [], ◌∷◌, ◌++◌, length, get_or, drop, Some, None, Ok, Err, MatchBool, Option, Result, sym, refl, ap, ◌∙◌, subst, arith}
 use Rattle.std.proofs.lemmas.List.{drop_all, take_all, length-append}
+use Rattle.std.proofs.lemmas.List.Quantifiers.{position-Some}
+use Rattle.std.proofs.lemmas.Iterator.Adapters.{position_from-zero}
 use Rattle.std.proofs.lemmas.Bool.{cond_both, cond-true, cond-false, ltb-true, ltb-false, le-ltb, eq-eqb, ne_eqb}
 use Rattle.std.proofs.lemmas.Bool.Decides.{nat_tests}
 use Rattle.errno.specs.declared.ErrorCode.{ErrorCode}
@@ -28,7 +30,7 @@ use Rattle.memory_host.specs.State.{State, means, with_disk, entries, type_of}
 use Rattle.memory_files.specs.Disk.{Disk, Outcome, with_content}
 use Rattle.memory_files.specs.Askings.{give}
 use Rattle.memory_dir.specs.Askings.{count_in, entry_count, entry_of, entry_in, entry_at, node_of, fresh, open_directory, give_file, open_existing, Next, with_file, new_file, Ends, NewFile, OpenFound, OpenIn, OpenAt}
-use Rattle.memory_host.proofs.Slots.{set_index, directory_live, free_live, found}
+use Rattle.memory_host.proofs.Slots.{set_index, directory_live, free_live}
 use Rattle.memory_host.proofs.Files.{type_there}
 use Rattle.memory_host.proofs.Changes.{slot_put, bytes_put}
 use Rattle.memory_host.specs.Bounds.{counted}
@@ -52,33 +54,38 @@ no_entries m Free c e = refl
 no_entries m (Node opened) c e = by_node opened.node opened.flags e
   where
     by_node : (node : NodeOf) (flags : DescriptorFlags) → directory_of (Ok (record { node = node; flags = flags })) ≡ Err c → entries_of m (live_of (Node (record { node = node; flags = flags }))) ≡ []
-    by_node Directory flags t = absurd (let z : ◌≡◌ {A = ℕ} 0 1 = cc in omega (arith, z))
+    by_node Directory flags t = cc
     by_node (File f) flags t = refl
 no_entries m (Stream stream) c e = refl
 no_entries m Stdin c e = refl
 no_entries m Stdout c e = refl
 no_entries m Stderr c e = refl
 
-pub entry_law : (s : State) (h i : ℕ) (buffer : List ℕ) → EntryAt (means s) h i buffer (entry_at s.disk h i buffer).0 (entry_at s.disk h i buffer).1 (means s)
-entry_law s h i buffer = (go (directory_at s.disk.slots h) refl, refl)
+pub entry_law : (s : State) (h i : ℕ) → EntryAt (means s) h i (entry_at s.disk h i) (means s)
+entry_law s h i = (go (directory_at s.disk.slots h) refl, refl)
   where
-    Q : List Entry → Result DirEntry ErrorCode × List ℕ → Type 0
-    Q es out = EntryIs (drop i es) buffer out.0 out.1
+    Q : List Entry → Result DirEntry ErrorCode → Type 0
+    Q es r = EntryIs (drop i es) r
 
-    R : List Entry → Result DirEntry ErrorCode × List ℕ → Type 0
-    R es out = EntryIs es buffer out.0 out.1
+    R : List Entry → Result DirEntry ErrorCode → Type 0
+    R es r = EntryIs es r
 
-    go : (g : Result (Unit {0}) ErrorCode) → directory_at s.disk.slots h ≡ g → Q (entries_of (means s) (lives s.disk.slots h)) (entry_in s.disk g i buffer)
+    here : i < length s.disk.names → R (drop i (entries 0 s.disk.names)) (Ok (record { filetype = RegularFile; serial = i + 1; name = record { items = get_or s.disk.names i [] } }))
+    here h =
+        let serial : 0 + i + 1 ≡ i + 1 = omega arith in
+        subst (λ es. R es (Ok (record { filetype = RegularFile; serial = i + 1; name = record { items = get_or s.disk.names i [] } })))
+        (sym (entry_here 0 i s.disk.names h ∙ ap (λ n. readable RegularFile (get_or s.disk.names i []) n ∷ drop (suc i) (entries 0 s.disk.names)) serial))
+        (refl, refl, refl)
+
+    go : (g : Result (Unit {0}) ErrorCode) → directory_at s.disk.slots h ≡ g → Q (entries_of (means s) (lives s.disk.slots h)) (entry_in s.disk g i)
     go (Ok u) e =
         let d = directory_live s.disk.slots h u e in
         let all : entries_of (means s) (lives s.disk.slots h) ≡ entries 0 s.disk.names = ap (entries_of (means s)) d.1 in
-        subst (λ es. Q es (entry_of s.disk.names i buffer)) (sym all)
-        (cond_both (ltb i (length s.disk.names)) _ _ (λ out. Q (entries 0 s.disk.names) out)
-        (λ t. let serial : 0 + i + 1 ≡ i + 1 = omega arith in
-        subst (λ es. R es (Ok (record { filetype = RegularFile; serial = i + 1; name_len = length (get_or s.disk.names i []) }), get_or s.disk.names i [] ++ drop (length (get_or s.disk.names i [])) buffer)) (sym (entry_here 0 i s.disk.names (ltb-true i (length s.disk.names) t) ∙ ap (λ n. readable RegularFile (get_or s.disk.names i []) n ∷ drop (suc i) (entries 0 s.disk.names)) serial))
-        (refl, refl, refl, refl))
-        (λ t. subst (λ es. R es (Err NoEntry, buffer)) (sym (drop_all i (entries 0 s.disk.names) (omega (arith, counted 0 s.disk.names, ltb-false i (length s.disk.names) t)))) refl))
-    go (Err c) e = subst (λ es. Q es (Err c, buffer)) (sym (no_entries (means s) (open_at s.disk.slots h) c e)) (subst (λ es. R es (Err c, buffer)) (sym (drop_all i [] (omega arith))) refl)
+        subst (λ es. Q es (entry_of s.disk.names i)) (sym all)
+        (cond_both (ltb i (length s.disk.names)) _ _ (λ r. Q (entries 0 s.disk.names) r)
+        (λ t. here (ltb-true i (length s.disk.names) t))
+        (λ t. subst (λ es. R es (Err NoEntry)) (sym (drop_all i (entries 0 s.disk.names) (omega (arith, counted 0 s.disk.names, ltb-false i (length s.disk.names) t)))) tt))
+    go (Err c) e = subst (λ es. Q es (Err c)) (sym (no_entries (means s) (open_at s.disk.slots h) c e)) (subst (λ es. R es (Err c)) (sym (drop_all i [] (omega arith))) tt)
 
 -- one file more
 type_step : {X : Type 0} (d r n : X) (len f k : ℕ) → f ≡ len → f < 8 → cond (eqb k 8) d (cond (ltb k (len + 1)) r n) ≡ cond (eqb k f) r (cond (eqb k 8) d (cond (ltb k len) r n))
@@ -227,8 +234,8 @@ module _ (s : State) (h oflags : ℕ) (flags : DescriptorFlags) (eight : length 
 
     found_law : (name : List ℕ) (q : Option FileNumber) → Found s.disk.names name q → OpenFound s.disk q name oflags flags r d' → Kept
     found_law name (Some f) i o =
-        let k = found (λ other. bytes_eq other name) [] s.disk.names 0 f.number i in
-        ends _ (existing_case f (omega (arith, k.1, k.2))) o
+        let there = position-Some (λ (other : List ℕ). bytes_eq other name) s.disk.names f.number [] (position_from-zero (λ (other : List ℕ). bytes_eq other name) s.disk.names ∙ i) in
+        ends _ (existing_case f there.0) o
     found_law name None i o = split (contains oflags creat) o
         (λ t w. split (contains oflags directory_bit) w (λ u v. ends _ refl v) (λ u v. new_law name t (first_free s.disk.slots) refl v))
         (λ t w. ends _ refl w)

@@ -1,6 +1,6 @@
 -- The answers on files keep the laws.
-use Rattle.std.proofs.Common.{◌≡◌, ℕ, ◌+◌, ◌<◌, eqb, ltb, leb, List, [], ◌++◌, length, Some, Ok, Err, Result, sym, refl, ap, ◌∙◌, le_refl, arith}
-use Rattle.std.proofs.lemmas.List.{take_all, length-map, get_or_past}
+use Rattle.std.proofs.Common.{◌≡◌, ℕ, ◌+◌, ◌<◌, eqb, ltb, leb, List, [], ◌∷◌, ◌++◌, length, Some, Ok, Err, Result, sym, refl, ap, ◌∙◌, le_refl, arith, rules}
+use Rattle.std.proofs.lemmas.List.{same_lists, places, take_all, length-map, get_or_past}
 use Rattle.std.proofs.lemmas.Bool.{cond_both, cond-true, cond-false, lt-ltb, leb-false, ne_eqb}
 use Rattle.errno.specs.declared.ErrorCode.{ErrorCode}
 use Rattle.types.specs.declared.flags.DescriptorFlags.{DescriptorFlags}
@@ -10,8 +10,8 @@ use Rattle.types.specs.Words.{read, write}
 use Rattle.host.specs.declared.token.NodeKind.TheVariants.{File as FileNode, Directory as DirectoryNode}
 use Rattle.host.specs.Meaning.{Live, file, directory, with_content as with_bytes}
 use Rattle.host.specs.Laws.{ReadAt, WriteAt, Append, StatOf, Node, written}
-use Rattle.storage.specs.Held.{content_of, too_large}
-use Rattle.storage.proofs.Fronts.{appended}
+use Rattle.storage.specs.Held.{too_large}
+use Rattle.files.specs.Lists.{content_of}
 use Rattle.handles.specs.declared.file_number.FileNumber.{FileNumber}
 use Rattle.handles.specs.declared.open.Opened.{Opened}
 use Rattle.handles.specs.declared.open.Node.{Node as NodeOf}
@@ -27,7 +27,12 @@ use Rattle.memory_host.proofs.Changes.{bytes_put}
 
 -- there is room for the bytes of eight files
 pub all_eight : (m : MemoryHost) → length (state m).disk.contents ≡ 8
-all_eight m = length-map m.files.files content_of ∙ m.files.eight
+all_eight m = length-map m.disk.files.files content_of ∙ m.disk.files.eight
+
+-- bytes written at the end are appended
+appended : (xs ys : List ℕ) (p : ℕ) → p ≡ length xs → written xs p ys ≡ xs ++ ys
+appended xs [] p e = same_lists _ _ (search (rules, places)) (λ k d h. grind (arith, places))
+appended xs (y ∷ ys) p e = same_lists _ _ (search (rules, places)) (λ k d h. grind (arith, places))
 
 abbrev live_file : FileNumber × DescriptorFlags → Live
 live_file f = record { kind = file; node = f.0.number; flags = f.1 }

@@ -1,34 +1,33 @@
 -- The memory host keeps the limits of every host.
 use Rattle.std.specs.Prelude.{◌≡◌, ℕ, zero, suc, ◌+◌, ◌≤◌, List, [], ◌∷◌, map, length, take, ◌==◌, slice_index_or, refl}
 use Rattle.std.proofs.Common.{ap, arith}
-use Rattle.std.proofs.lemmas.List.{length-take}
+use Rattle.std.proofs.lemmas.List.{length-map, length-take}
 use Rattle.std.proofs.lemmas.Bool.{cond_both}
 use Rattle.host.specs.Meaning.{Bounded, Named}
 use Rattle.storage.specs.declared.file.File.{File}
-use Rattle.storage.specs.Held.{name_of, content_of}
-use Rattle.files.specs.Lists.{names}
+use Rattle.files.specs.Lists.{name_of, content_of, names}
 use Rattle.memory_host.specs.declared.in_memory.MemoryHost.{MemoryHost}
 use Rattle.memory_host.specs.State.{meaning_of, entries}
 
 sized : (files : List File) (n : ℕ) → length (slice_index_or (map content_of files) n []) ≤ 2048
 sized [] n = omega arith
-sized (f ∷ files) zero = omega (arith, length-take f.len f.bytes, f.fits)
+sized (f ∷ files) zero = f.small
 sized (f ∷ files) (suc n) = sized files n
 
 pub counted : (node : ℕ) (ns : List (List ℕ)) → length (entries node ns) ≡ length ns
 counted node [] = refl
 counted node (n ∷ ns) = ap suc (counted (node + 1) ns)
 
-named : (node count : ℕ) (files : List File) → Named (entries node (take count (map name_of files)))
+named : (node count : ℕ) (files : List File) → Named (entries node (map name_of (take count files)))
 named node zero files = tt
 named node (suc count) [] = tt
-named node (suc count) (f ∷ files) = (omega (arith, length-take f.name_len f.name, f.named), named (node + 1) count files)
+named node (suc count) (f ∷ files) = (omega (arith, f.short), named (node + 1) count files)
 
 pub bounds : (m : MemoryHost) → Bounded (meaning_of m)
 bounds m = record {
-  files = λ node. omega (arith, sized m.files.files node);
-  listings = λ node. cond_both (node == 8) (entries 0 (names m.files)) [] (λ es. length es ≤ 65536)
-      (λ e. omega (arith, counted 0 (names m.files), length-take m.files.count (map name_of m.files.files), m.files.few))
+  files = λ node. omega (arith, sized m.disk.files.files node);
+  listings = λ node. cond_both (node == 8) (entries 0 (names m.disk.files)) [] (λ es. length es ≤ 65536)
+      (λ e. omega (arith, counted 0 (names m.disk.files), length-map (take m.disk.files.count m.disk.files.files) name_of, length-take m.disk.files.count m.disk.files.files, m.disk.files.few))
       (λ e. omega arith);
-  names = λ node. cond_both (node == 8) (entries 0 (names m.files)) [] Named (λ e. named 0 m.files.count m.files.files) (λ e. tt);
+  names = λ node. cond_both (node == 8) (entries 0 (names m.disk.files)) [] Named (λ e. named 0 m.disk.files.count m.disk.files.files) (λ e. tt);
 }

@@ -1,12 +1,10 @@
 -- What the memory host holds, and what that means.
-use Rattle.std.specs.Prelude.{ℕ, ◌+◌, cond, List, [], ◌∷◌, length, replicate, Some, None, Option, ◌==◌, nat_lt, slice_index_or}
+use Rattle.std.specs.Prelude.{ℕ, ◌+◌, cond, List, [], ◌∷◌, length, Some, None, Option, ◌==◌, nat_lt, slice_index_or}
 use Rattle.types.specs.declared.filetype.Filetype.{Filetype}
 use Rattle.types.specs.declared.filetype.Filetype.TheVariants.{Directory, RegularFile}
 use Rattle.host.specs.Meaning.{Entry, readable, Meaning}
-use Rattle.storage.specs.Held.{taken_by}
-use Rattle.handles.specs.declared.open.Open.TheVariants.{Free}
 use Rattle.handles.specs.Lives.{lives, directory_node, stdin_node, stdout_node, stderr_node}
-use Rattle.memory_files.specs.Disk.{Disk, disk as disk_of}
+use Rattle.memory_files.specs.Disk.{Disk, blank, disk as disk_of}
 use Rattle.memory_host.specs.declared.in_memory.MemoryHost.{MemoryHost}
 
 pub record State : Type 0 where
@@ -16,14 +14,14 @@ pub record State : Type 0 where
   pub stderr : List ℕ
 
 abbrev pub state : MemoryHost → State
-state m = record { disk = disk_of m.handles m.files; input = m.input.now; stdout = taken_by m.stdout; stderr = taken_by m.stderr }
+state m = record { disk = disk_of m.disk; input = m.input.now; stdout = m.stdout.taken.items; stderr = m.stderr.taken.items }
 
 abbrev pub with_disk : State → Disk → State
 with_disk s d = record { disk = d; input = s.input; stdout = s.stdout; stderr = s.stderr }
 
 -- nothing is open, and there are no files
 abbrev pub empty : List ℕ → State
-empty input = record { disk = record { slots = replicate 80 Free; names = []; contents = replicate 8 [] }; input = input; stdout = []; stderr = [] }
+empty input = record { disk = blank; input = input; stdout = []; stderr = [] }
 
 -- files have the serial numbers from 1 on, the directory has 0
 abbrev pub serial_of : ℕ → ℕ

@@ -7,16 +7,15 @@ mod dir_host;
 mod file_host;
 
 use errno::ErrorCode;
-use files::Files;
-use handles::{Handles, Open};
+use handles::Open;
 use host::StreamError;
+use memory_files::MemoryDisk;
 use storage::{Output, read_at};
 use types::Handle;
 
 #[derive(Drop)]
 pub struct MemoryHost<'a> {
-    handles: Handles,
-    pub files: Files,
+    pub disk: MemoryDisk,
     // What still waits on standard input.
     input: &'a [u8],
     pub stdout: Output,
@@ -29,8 +28,7 @@ impl<'a> MemoryHost<'a> {
         ensures { state result ≡ empty input.now }
     {
         MemoryHost {
-            handles: Handles::new(),
-            files: Files::new(),
+            disk: MemoryDisk::new(),
             input,
             stdout: Output::new(),
             stderr: Output::new(),
@@ -43,19 +41,10 @@ impl MemoryHost<'_> {
     fn take(&mut self, input: Handle, buffer: &mut [u8]) -> Result<usize, StreamError>
         ensures { (result, buffer.new, state self.new) ≡ taking (state self.old) input.0 buffer.old }
     {
-        match self.handles.get(input) {
-            Open::Stream(stream) => memory_files::take(
-                &mut self.handles,
-                &self.files,
-                input,
-                stream,
-                buffer,
-            ),
+        match self.disk.handles.get(input) {
+            Open::Stream(stream) => self.disk.take(input, stream, buffer),
             Open::Stdin => self.take_input(buffer),
-            Open::Free => Err(StreamError::LastOperationFailed(ErrorCode::BadDescriptor)),
-            Open::Node(_) => Err(StreamError::LastOperationFailed(ErrorCode::BadDescriptor)),
-            Open::Stdout => Err(StreamError::LastOperationFailed(ErrorCode::BadDescriptor)),
-            Open::Stderr => Err(StreamError::LastOperationFailed(ErrorCode::BadDescriptor)),
+            _ => Err(StreamError::from(ErrorCode::BadDescriptor)),
         }
     }
 
@@ -77,18 +66,11 @@ impl MemoryHost<'_> {
     fn give(&mut self, output: Handle, piece: &[u8]) -> Result<(), ErrorCode>
         ensures { (result, state self.new) ≡ giving (state self.old) output.0 piece.now }
     {
-        let taken = match self.handles.get(output) {
+        let taken = match self.disk.handles.get(output) {
             Open::Stdout => self.stdout.write(piece),
             Open::Stderr => self.stderr.write(piece),
-            Open::Free => return Err(ErrorCode::BadDescriptor),
-            Open::Node(_) => return Err(ErrorCode::BadDescriptor),
-            Open::Stream(_) => return Err(ErrorCode::BadDescriptor),
-            Open::Stdin => return Err(ErrorCode::BadDescriptor),
+            _ => return Err(ErrorCode::BadDescriptor),
         };
-        if taken {
-            Ok(())
-        } else {
-            Err(ErrorCode::InsufficientSpace)
-        }
+        taken.map_err(|_| ErrorCode::InsufficientSpace)
     }
 }

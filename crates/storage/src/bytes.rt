@@ -19,14 +19,16 @@ pub fn read_at(bytes: &[u8], offset: u64, buffer: &mut [u8]) -> usize
 }
 
 // Writes behind, over and at the end of the bytes, all of the source or nothing.
-pub fn write_at<const CAP: usize>(
+pub(crate) fn write_at<const CAP: usize>(
     bytes: &mut ArrayVec<u8, CAP>,
     offset: u64,
     source: &[u8],
 ) -> Result<(), CapacityError>
+    requires { length bytes.old.items ≤ CAP }
     ensures fits { IsOk result ↔ (too_large CAP offset source.now ≡ false) }
     ensures ok { OnOk result (bytes.new.items ≡ written bytes.old.items offset source.now) }
     ensures err { OnErr result (bytes.new ≡ bytes.old) }
+    ensures within { length bytes.new.items ≤ CAP }
 {
     if source.is_empty() {
         return Ok(());

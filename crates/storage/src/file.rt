@@ -1,15 +1,30 @@
 // A file: a name, and the bytes that it holds.
-ghost use Rattle.std.specs.Prelude.{◌≡◌, ◌≤◌, ◌↔◌, [], length, false, IsOk, OnOk, OnErr, IfOk};
-ghost use Rattle.storage.specs.Held.{too_large};
+ghost use Rattle.std.specs.Prelude.{◌≡◌, ◌≤◌, ◌↔◌, [], length, false, IsOk, IfOk, OnOk, OnErr};
 ghost use Rattle.host.specs.Laws.{written};
+ghost use Rattle.storage.specs.Held.{too_large};
 
 use crate::bytes::write_at;
 use arrayvec::{ArrayVec, CapacityError};
 
-#[derive(Clone, Debug, Default, PartialEq, Eq, Drop)]
+// The ghost fields say of a file what an `ArrayVec` knows of itself, where a law speaks of files.
+#[derive(Debug, PartialEq, Eq, Drop)]
 pub struct File {
     pub name: ArrayVec<u8, 32>,
     pub content: ArrayVec<u8, 2048>,
+    ghost short: { length name.items ≤ 32 },
+    ghost small: { length content.items ≤ 2048 },
+}
+
+// A file without a name and without bytes.
+impl Default for File {
+    ghost is_default = { λ f. (f.name.items ≡ []) × (f.content.items ≡ []) };
+
+    fn default() -> File {
+        File {
+            name: ArrayVec::new(),
+            content: ArrayVec::new(),
+        }
+    }
 }
 
 impl File {
@@ -27,15 +42,17 @@ impl File {
     // Writes the bytes at the offset, with zeros in a gap before it. They fit, or the file stays.
     pub fn write(&mut self, offset: u64, source: &[u8]) -> Result<(), CapacityError>
         ensures fits { IsOk result ↔ (too_large 2048 offset source.now ≡ false) }
-        ensures ok { OnOk result (self.new ≡ record self.old { content = record { items = written self.old.content.items offset source.now } }) }
-        ensures err { OnErr result (self.new ≡ self.old) }
+        ensures name { self.new.name ≡ self.old.name }
+        ensures ok { OnOk result (self.new.content.items ≡ written self.old.content.items offset source.now) }
+        ensures err { OnErr result (self.new.content ≡ self.old.content) }
     {
         write_at(&mut self.content, offset, source)
     }
 
     // Takes all bytes away.
     pub fn clear(&mut self)
-        ensures { self.new ≡ record self.old { content = record { items = [] } } }
+        ensures name { self.new.name ≡ self.old.name }
+        ensures content { self.new.content.items ≡ [] }
     {
         self.content.clear();
     }

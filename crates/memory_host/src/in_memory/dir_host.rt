@@ -2,6 +2,7 @@
 use super::MemoryHost;
 use errno::ErrorCode;
 use host::{DirEntry, DirHost, Fresh, Start};
+use memory_dir::OpenOptions;
 use types::{DescriptorFlags, Handle, Lookupflags, Oflags};
 
 impl<'a> DirHost for MemoryHost<'a> {
@@ -15,29 +16,22 @@ impl<'a> DirHost for MemoryHost<'a> {
         flags: DescriptorFlags,
     ) -> Result<Fresh, ErrorCode> {
         memory_dir::open(
-            &mut self.handles,
-            &mut self.files,
+            &mut self.disk,
             directory,
             path,
-            oflags,
-            flags,
+            OpenOptions { oflags, flags },
         )
     }
 
     fn entry_count(&mut self, directory: Handle) -> Result<u32, ErrorCode> {
-        memory_dir::entry_count(&self.handles, &self.files, directory)
+        memory_dir::entry_count(&self.disk, directory)
     }
 
-    fn entry(
-        &mut self,
-        directory: Handle,
-        index: u32,
-        name: &mut [u8; 255],
-    ) -> Result<DirEntry, ErrorCode> {
-        memory_dir::entry(&self.handles, &self.files, directory, index, name)
+    fn entry(&mut self, directory: Handle, index: u32) -> Result<DirEntry, ErrorCode> {
+        memory_dir::entry(&self.disk, directory, index)
     }
 
     fn start(&mut self) -> Start {
-        self.handles.start()
+        self.disk.handles.start()
     }
 }

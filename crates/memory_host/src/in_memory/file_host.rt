@@ -19,23 +19,23 @@ impl<'a> FileHost for MemoryHost<'a> {
         buffer: &mut [u8],
         offset: u64,
     ) -> Result<usize, ErrorCode> {
-        memory_files::read_at(&self.handles, &self.files, file, buffer, offset)
+        self.disk.read_at(file, buffer, offset)
     }
 
     fn write_at(&mut self, file: Handle, bytes: &[u8], offset: u64) -> Result<usize, ErrorCode> {
-        memory_files::write_at(&self.handles, &mut self.files, file, bytes, offset)
+        self.disk.write_at(file, bytes, offset)
     }
 
     fn append(&mut self, file: Handle, bytes: &[u8]) -> Result<usize, ErrorCode> {
-        memory_files::append(&self.handles, &mut self.files, file, bytes)
+        self.disk.append(file, bytes)
     }
 
     fn stat(&mut self, node: Handle) -> Result<Stat, ErrorCode> {
-        memory_files::stat(&self.handles, &self.files, node)
+        self.disk.stat(node)
     }
 
     fn read_via_stream(&mut self, file: Handle, offset: u64) -> Result<FileStream, ErrorCode> {
-        memory_files::read_via_stream(&mut self.handles, &self.files, file, offset)
+        self.disk.read_via_stream(file, offset)
     }
 
     fn read_stream(&mut self, input: Handle, buffer: &mut [u8]) -> Result<usize, StreamError> {
@@ -47,7 +47,7 @@ impl<'a> FileHost for MemoryHost<'a> {
     }
 
     fn drop_handle(&mut self, handle: Handle) -> Result<(), DropFault> {
-        self.handles.put(handle, Open::Free);
+        self.disk.handles.put(handle, Open::Free);
         Ok(())
     }
 }

@@ -1,4 +1,4 @@
-use Rattle.std.proofs.Common.{ℕ, List, Result, sym, subst}
+use Rattle.std.proofs.Common.{Result, sym, subst}
 use Rattle.errno.specs.declared.ErrorCode.{ErrorCode}
 use Rattle.host.specs.declared.answers.DirEntry.{DirEntry}
 use Rattle.host.specs.Laws.{EntryAt}
@@ -9,4 +9,4 @@ use Rattle.memory_host.proofs.in_memory.dir_host.MemoryHostDirHost.entry.Goals a
 pub returns : goal.returns
 returns c =
     let s = state c.args.self.now in
-    subst (λ (out : Result DirEntry ErrorCode × List ℕ). EntryAt (means s) c.args.directory.0 c.args.index c.args.name.now out.0 out.1 (means s)) (sym c.entry.ensures) (entry_law s c.args.directory.0 c.args.index c.args.name.now)
+    subst (λ (r : Result DirEntry ErrorCode). EntryAt (means s) c.args.directory.0 c.args.index r (means s)) (sym c.entry.ensures) (entry_law s c.args.directory.0 c.args.index)

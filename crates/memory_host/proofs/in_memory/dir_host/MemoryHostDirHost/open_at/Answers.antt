@@ -7,4 +7,4 @@ use Rattle.memory_host.proofs.in_memory.dir_host.MemoryHostDirHost.open_at.Goals
 pub returns : goal.returns
 returns c =
     let s = state c.args.self.now in
-    open_law s c.args.directory.0 c.args.oflags.0 c.args.path.now c.args.flags c.open.result (disk c.open.new.handles c.open.new.files) (all_eight c.args.self.now) c.open.ensures
+    open_law s c.args.directory.0 c.args.oflags.0 c.args.path.now c.args.flags c.open.result (disk c.open.new.memory) (all_eight c.args.self.now) c.open.ensures
