@@ -1,7 +1,6 @@
 // What a guest's call goes through before any file is touched: fuel, vectors and a path, one line a step.
 #![tactic(auto)]
 
-use errno::{Error, TrapCause};
 use fuel::{Array, Fuel, first_non_empty};
 use memory::Region;
 use path::read_string;
@@ -43,14 +42,6 @@ fn lay_vector(rt: &impl Print, memory: &mut [u8], ptr: u32, vector: Ciovec) -> i
     }
 }
 
-fn refused(rt: &impl Print, error: Error, left: u64) -> io::Result<()> {
-    match error {
-        Error::Errno(errno) => println!(rt; "  errno {}, fuel left {left}", errno.number()),
-        Error::Trap(TrapCause::Pointer) => println!(rt; "  trap pointer, fuel left {left}"),
-        Error::Trap(TrapCause::Drop) => println!(rt; "  trap drop, fuel left {left}"),
-    }
-}
-
 fn find_buffer(rt: &impl Print, fuel: &mut Fuel, memory: &[u8], array: Array) -> io::Result<()> {
     println!(rt;
         "{} vectors from {} on, fuel {}",
@@ -61,7 +52,7 @@ fn find_buffer(rt: &impl Print, fuel: &mut Fuel, memory: &[u8], array: Array) ->
             "  the first non-empty one names {} bytes at {}, fuel left {}",
             buffer.len, buffer.ptr, fuel.remaining
         ),
-        Err(error) => refused(rt, error, fuel.remaining),
+        Err(error) => println!(rt; "  {error}, fuel left {}", fuel.remaining),
     }
 }
 
@@ -76,7 +67,7 @@ fn check_path(rt: &impl Print, fuel: &mut Fuel, memory: &[u8], path: Region) -> 
             bytes.len(),
             fuel.remaining
         ),
-        Err(error) => refused(rt, error, fuel.remaining),
+        Err(error) => println!(rt; "  {error}, fuel left {}", fuel.remaining),
     }
 }
 

@@ -1,5 +1,5 @@
 -- What is charged, and what a refusal leaves of the fuel.
-use Rattle.std.specs.Prelude.{◌≡◌, ℕ, ◌-◌, cond, Ok, Err, Result, nat_le}
+use Rattle.std.specs.Prelude.{◌≡◌, ℕ, ◌-◌, if◌then◌else◌, Ok, Err, Result, nat_le}
 use Rattle.errno.specs.declared.Errno.TheVariants.{Nomem}
 use Rattle.errno.specs.declared.Error.{Error}
 use Rattle.errno.specs.declared.Error.TheVariants.{Errno}
@@ -14,7 +14,7 @@ Is outcome answer fuel = (answer ≡ outcome.0) × (fuel ≡ outcome.1)
 
 -- a charge larger than the fuel is refused with nomem and leaves it; otherwise it is taken, and what is next happens with the rest
 abbrev pub charge : {X : Type 0} → ℕ → ℕ → (ℕ → Outcome X) → Outcome X
-charge amount fuel next = cond (nat_le amount fuel) (next (fuel - amount)) (Err (Errno Nomem), fuel)
+charge amount fuel next = if nat_le amount fuel then next (fuel - amount) else (Err (Errno Nomem), fuel)
 
 abbrev pub charged : ℕ → ℕ → Outcome (Unit {0})
 charged amount fuel = charge amount fuel (λ rest. (Ok tt, rest))

@@ -1,5 +1,5 @@
 -- The first vector of an array that is not empty, and what finding it costs.
-use Rattle.std.specs.Prelude.{ℕ, zero, suc, ◌+◌, ◌*◌, cond, List, [], ◌∷◌, Some, None, Ok, Err, Option, Result, ◌==◌}
+use Rattle.std.specs.Prelude.{ℕ, zero, suc, ◌+◌, ◌*◌, if◌then◌else◌, List, [], ◌∷◌, Some, None, Ok, Err, Option, Result, ◌==◌}
 use Rattle.memory.specs.declared.GuestError.{GuestError}
 use Rattle.memory.specs.declared.Region.{Region}
 use Rattle.records.specs.Layout.{read_at}
@@ -16,7 +16,7 @@ vectors size align parsed memory (suc n) ptr = read_at size align parsed memory 
 abbrev pub first : {X : Type 0} → (X → Region) → List (Result X GuestError) → Result (Option Region) GuestError
 first named [] = Ok None
 first named (Err fault ∷ rest) = Err fault
-first named (Ok x ∷ rest) = cond ((named x).len == 0) (first named rest) (Ok (Some (named x)))
+first named (Ok x ∷ rest) = if (named x).len == 0 then first named rest else Ok (Some (named x))
 
 -- the buffer is charged for; without one it is empty, and nothing is charged
 abbrev pub bought : Result (Option Region) GuestError → ℕ → Outcome Region

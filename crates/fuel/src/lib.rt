@@ -11,7 +11,7 @@ use records::GuestType;
 pub use vectors::{Array, first_non_empty};
 
 // What a guest's calls may still be charged.
-#[derive(Clone, Copy)]
+#[derive(Clone, Copy, Debug, PartialEq, Eq)]
 pub struct Fuel {
     pub remaining: u64,
 }
@@ -30,8 +30,8 @@ impl Fuel {
 
     // Takes the charge for an array of `count` records.
     pub fn consume_fuel_for_array<T: GuestType>(&mut self, count: u32) -> Result<(), Error>
-        ensures { Is (charged (T.GuestType.size * count) self.old.remaining) result self.new.remaining }
+        ensures { Is (charged (T.SIZE * count) self.old.remaining) result self.new.remaining }
     {
-        self.consume_fuel(T::layout().size as u64 * count as u64)
+        self.consume_fuel(T::SIZE as u64 * count as u64)
     }
 }

@@ -4,20 +4,21 @@
 mod paths;
 mod vectors;
 
-use errno::Error;
+use errno::{Errno, Error, TrapCause};
 
-// The number of an errno, or none where the guest is stopped by a trap.
-type Told = Option<u16>;
+const ILSEQ: Error = Error::Errno(Errno::Ilseq);
 
-const ILSEQ: Told = Some(25);
+const NOMEM: Error = Error::Errno(Errno::Nomem);
 
-const NOMEM: Told = Some(48);
+const POINTER: Error = Error::Trap(TrapCause::Pointer);
 
-const POINTER: Told = None;
+#[cfg(test)]
+mod tests {
+    use super::*;
 
-fn told(error: Error) -> Told {
-    match error {
-        Error::Errno(errno) => Some(errno.number()),
-        Error::Trap(_) => None,
+    #[test]
+    fn errnos_have_the_numbers_of_witx(rt: HostRuntime) {
+        assert_eq!(rt; u16::from(Errno::Ilseq), 25);
+        assert_eq!(rt; u16::from(Errno::Nomem), 48);
     }
 }

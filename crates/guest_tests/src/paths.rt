@@ -1,16 +1,13 @@
 // Paths: the boundary sequences of RFC 3629, and paths at the ends of memory and of fuel.
-use crate::{Told, told};
+use errno::Error;
 use fuel::Fuel;
 use memory::Region;
 use path::read_string;
 
-// The length of a path, or what is told where it is refused, and the fuel that is left.
-fn path_read(fuel: u64, memory: &[u8], path: Region) -> (Result<usize, Told>, u64) {
+// The length of a path, if it is not refused, and the fuel that is left.
+fn path_read(fuel: u64, memory: &[u8], path: Region) -> (Result<usize, Error>, u64) {
     let mut fuel = Fuel { remaining: fuel };
-    let answer = match read_string(&mut fuel, memory, path) {
-        Ok(bytes) => Ok(bytes.len()),
-        Err(error) => Err(told(error)),
-    };
+    let answer = read_string(&mut fuel, memory, path).map(|bytes| bytes.len());
     (answer, fuel.remaining)
 }
 

@@ -1,16 +1,13 @@
 // The first non-empty vector, looked for at the ends of memory and of fuel.
-use crate::{Told, told};
+use errno::Error;
 use fuel::{Array, Fuel, first_non_empty};
 use memory::Region;
 use records::Iovec;
 
 // The buffer of a vector call, and the fuel that is left.
-fn buffer_found(fuel: u64, memory: &[u8], array: Array) -> (Result<Region, Told>, u64) {
+fn buffer_found(fuel: u64, memory: &[u8], array: Array) -> (Result<Region, Error>, u64) {
     let mut fuel = Fuel { remaining: fuel };
-    let answer = match first_non_empty::<Iovec>(&mut fuel, memory, array) {
-        Ok(buffer) => Ok(buffer),
-        Err(error) => Err(told(error)),
-    };
+    let answer = first_non_empty::<Iovec>(&mut fuel, memory, array);
     (answer, fuel.remaining)
 }
 
@@ -19,9 +16,9 @@ mod tests {
     use super::*;
     use crate::{NOMEM, POINTER};
 
-    const EMPTY: (u32, u32) = (0, 0);
+    const EMPTY: Region = Region { ptr: 0, len: 0 };
 
-    const FOUND: (u32, u32) = (7, 1);
+    const FOUND: Region = Region { ptr: 7, len: 1 };
 
     // A row: so many bytes of the memory, an array's address and count, fuel; the answer and the fuel left.
     #[test]
@@ -55,11 +52,7 @@ mod tests {
         for (bytes, ptr, count, fuel, expected, rest) in rows {
             assert!(rt; bytes <= 25);
             let (answer, left) = buffer_found(fuel, &memory[0..bytes], Array { ptr, count });
-            let named = match answer {
-                Ok(buffer) => Ok((buffer.ptr, buffer.len)),
-                Err(told) => Err(told),
-            };
-            assert_eq!(rt; named, expected);
+            assert_eq!(rt; answer, expected);
             assert_eq!(rt; left, rest);
         }
     }

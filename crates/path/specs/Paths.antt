@@ -1,5 +1,5 @@
 -- A path in a guest's memory, and what it costs.
-use Rattle.std.specs.Prelude.{◌≡◌, ℕ, cond, List, Ok, Err, Result}
+use Rattle.std.specs.Prelude.{◌≡◌, ℕ, if◌then◌else◌, List, Ok, Err, Result}
 use Rattle.errno.specs.declared.Error.{Error}
 use Rattle.memory.specs.declared.GuestError.TheVariants.{PtrOutOfBounds, InvalidUtf8}
 use Rattle.memory.specs.declared.Region.{Region}
@@ -9,7 +9,7 @@ use Rattle.fuel.specs.Charges.{Outcome, charge}
 
 -- the bytes of a path are charged for, and then its range is checked
 abbrev pub found : List ℕ → Region → ℕ → Outcome (List ℕ)
-found memory path fuel = charge path.len fuel (λ rest. (cond (in_memory memory path.ptr path.len) (Ok (bytes_at memory path.ptr path.len)) (Err (told PtrOutOfBounds)), rest))
+found memory path fuel = charge path.len fuel (λ rest. (if in_memory memory path.ptr path.len then Ok (bytes_at memory path.ptr path.len) else Err (told PtrOutOfBounds), rest))
 
 -- what was found is answered exactly if it is UTF-8
 abbrev pub Checked : Result (List ℕ) Error → Result (List ℕ) Error → Type 0

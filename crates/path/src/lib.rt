@@ -1,8 +1,8 @@
 // A path that a guest hands over.
 #![tactic(auto)]
 
-ghost use Rattle.std.specs.Prelude.{Ok, Err};
 ghost use Rattle.fuel.specs.Charges.{Is};
+ghost use Rattle.records.specs.Layout.{bytes_of};
 ghost use Rattle.path.specs.Paths.{ReadString, found};
 
 use errno::Error;
@@ -12,7 +12,7 @@ use utf8::is_utf8;
 
 // The bytes of a region, paid for.
 fn paid_bytes<'a>(fuel: &mut Fuel, memory: &'a [u8], region: Region) -> Result<&'a [u8], Error>
-    ensures { Is (found memory.now region fuel.old.remaining) (elim result [ Ok bytes ↦ Ok bytes.now | Err e ↦ Err e ]) fuel.new.remaining }
+    ensures { Is (found memory.now region fuel.old.remaining) (bytes_of result) fuel.new.remaining }
 {
     fuel.consume_fuel(region.len as u64)?;
     region.check(memory)?;
@@ -22,7 +22,7 @@ fn paid_bytes<'a>(fuel: &mut Fuel, memory: &'a [u8], region: Region) -> Result<&
 
 // The bytes of a path: charged for, then found in the memory, then checked to be UTF-8.
 pub fn read_string<'a>(fuel: &mut Fuel, memory: &'a [u8], path: Region) -> Result<&'a [u8], Error>
-    ensures { ReadString memory.now path fuel.old.remaining (elim result [ Ok bytes ↦ Ok bytes.now | Err e ↦ Err e ]) fuel.new.remaining }
+    ensures { ReadString memory.now path fuel.old.remaining (bytes_of result) fuel.new.remaining }
 {
     let bytes = paid_bytes(fuel, memory, path)?;
     if !is_utf8(bytes) {

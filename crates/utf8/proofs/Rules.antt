@@ -1,6 +1,6 @@
 -- The bytes that the code takes are those of the grammar, and no others.
-use Rattle.std.proofs.Common.{◌≡◌, ℕ, zero, suc, ◌-◌, ◌≤◌, Bool, true, cond, eqb, leb, List, [], ◌∷◌, ◌++◌, Some, None, Decides, Option, sym, refl, ap, ◌∙◌, inl, inr, ⊎_elim, arith}
-use Rattle.std.proofs.lemmas.Bool.{le-leb, leb-true, and_from, and_parts, cases_Bool, cases_lt, cond-false, false≢true, ne_eqb}
+use Rattle.std.proofs.Common.{◌≡◌, ℕ, zero, suc, ◌≤◌, Bool, true, cond, leb, List, [], ◌∷◌, ◌++◌, Some, None, Decides, Option, sym, refl, ap, ◌∙◌, inl, inr, ⊎_elim, arith}
+use Rattle.std.proofs.lemmas.Bool.{leb-true, and_parts, cases_Bool, cases_lt, false≢true}
 use Rattle.std.proofs.lemmas.Bool.Decides.{nat_tests}
 use Rattle.utf8.specs.declared.Pending.{Pending}
 use Rattle.utf8.specs.Grammar.{Row, Within, Matches, Utf8Char, Utf8Chars, joined, Utf8Octets}
@@ -19,9 +19,7 @@ start bs = runs 0 128 191 bs
 
 -- one byte on within a character
 stepped : (n low high b : ℕ) → after (pending (suc n) low high) b ≡ cond (between low high b) (Some (pending n 128 191)) None
-stepped n low high b =
-    let one : suc n - 1 ≡ n = omega arith in
-    cond-false _ _ _ (ne_eqb (suc n) 0 (λ e. omega arith)) ∙ ap (λ (m : ℕ). cond (between low high b) (Some (pending m 128 191)) None) one
+stepped n low high b = grind (arith, nat_tests)
 
 -- between two characters the range does not matter
 fresh : (low high : ℕ) (bs : List ℕ) → runs 0 low high bs ≡ start bs
@@ -30,14 +28,13 @@ fresh low high (b ∷ bs) = refl
 
 -- from the grammar to the code
 in_range : (low high b : ℕ) → Within low high b → between low high b ≡ true
-in_range low high b w = and_from (leb low b) (leb b high) (le-leb low b w.least) (le-leb b high w.most)
+in_range low high b w = grind (arith, nat_tests)
 
 run : (n low high : ℕ) (u v : List ℕ) → Matches (rest_of n low high) u → runs n low high (u ++ v) ≡ start v
 run zero low high [] v m = fresh low high v
 run zero low high (b ∷ u) v m = absurd m
 run (suc n) low high [] v m = absurd m
-run (suc n) low high (b ∷ u) v m =
-    ap (λ (o : Option Pending). accepts o (u ++ v)) (stepped n low high b) ∙ ap (λ (t : Bool). accepts (cond t (Some (pending n 128 191)) None) (u ++ v)) (in_range low high b m.0) ∙ run n 128 191 u v m.1
+run (suc n) low high (b ∷ u) v m = grind (arith, stepped n low high b, in_range low high b m.0, run n 128 191 u v m.1)
 
 -- what a first byte leads to
 abbrev Leads : ℕ → ℕ → Option Pending → Type 0
@@ -78,7 +75,7 @@ lead_past b w = grind (arith, nat_tests)
 
 run_row : (lo hi n low high : ℕ) → Leads lo hi (Some (pending n low high)) → (c v : List ℕ) → Matches ((lo, hi) ∷ rest_of n low high) c → start (c ++ v) ≡ start v
 run_row lo hi n low high l [] v m = absurd m
-run_row lo hi n low high l (b ∷ u) v m = ap (λ (o : Option Pending). accepts o (u ++ v)) (l b m.0) ∙ run n low high u v m.1
+run_row lo hi n low high l (b ∷ u) v m = grind (arith, l b m.0, run n low high u v m.1)
 
 run_char : (c v : List ℕ) → Utf8Char c → start (c ++ v) ≡ start v
 run_char c v =
@@ -112,19 +109,19 @@ took n low high b bs ih e =
     ⊎_elim
     (λ t.
     let parts = and_parts (leb low b) (leb b high) t in
-    let p = ih n 128 191 (sym (ap (λ (k : Bool). accepts (cond k (Some (pending n 128 191)) None) bs) t) ∙ e) in
+    let p = ih n 128 191 (rw t at e) in
     record { front = b ∷ p.front; behind = p.behind; matches = (record { least = leb-true low b parts.0; most = leb-true b high parts.1 }, p.matches); octets = p.octets; whole = ap (λ xs. b ∷ xs) p.whole })
-    (λ f. absurd (false≢true (sym (ap (λ (k : Bool). accepts (cond k (Some (pending n 128 191)) None) bs) f) ∙ e)))
+    (λ f. absurd (false≢true (rw f at e)))
     (cases_Bool (between low high b))
 
 begun : (lo hi n low high : ℕ) → Leads lo hi (Some (pending n low high)) → ((c : List ℕ) → Matches ((lo, hi) ∷ rest_of n low high) c → Utf8Char c) → (b : ℕ) (bs : List ℕ) → lo ≤ b → b ≤ hi → Goes bs → accepts (lead b) bs ≡ true → Parsed [] (b ∷ bs)
 begun lo hi n low high l is-char b bs ge le ih e =
     let w : Within lo hi b = record { least = ge; most = le } in
-    let p = ih n low high (sym (ap (λ (o : Option Pending). accepts o bs) (l b w)) ∙ e) in
+    let p = ih n low high (rw (l b w) at e) in
     record { front = []; behind = b ∷ bs; matches = tt; octets = ((b ∷ p.front) ∷ p.octets.0, (is-char (b ∷ p.front) (w, p.matches), p.octets.1), ap (λ xs. b ∷ (p.front ++ xs)) p.octets.2 ∙ ap (λ xs. b ∷ xs) p.whole); whole = refl }
 
 refused : (o : Option Pending) (bs : List ℕ) → o ≡ None → accepts o bs ≡ true → ⊥
-refused o bs p e = false≢true (sym (ap (λ (o : Option Pending). accepts o bs) p) ∙ e)
+refused o bs p e = grind arith
 
 led : (b : ℕ) (bs : List ℕ) → Goes bs → accepts (lead b) bs ≡ true → Parsed [] (b ∷ bs)
 led b bs ih e =
@@ -141,14 +138,11 @@ led b bs ih e =
     (λ g10. absurd (refused (lead b) bs (lead_past b (omega arith)) e))
     (cases_lt b 245)) (cases_lt b 244)) (cases_lt b 241)) (cases_lt b 240)) (cases_lt b 238)) (cases_lt b 237)) (cases_lt b 225)) (cases_lt b 224)) (cases_lt b 194)) (cases_lt b 128)
 
-cut_short : (n : ℕ) → eqb (suc n) 0 ≡ true → ⊥
-cut_short n e = false≢true (sym (ne_eqb (suc n) 0 (λ z. omega arith)) ∙ e)
-
 sound : (bs : List ℕ) → Goes bs
 sound [] zero low high e = record { front = []; behind = []; matches = tt; octets = ([], tt, refl); whole = refl }
-sound [] (suc n) low high e = absurd (cut_short n e)
+sound [] (suc n) low high e = absurd (grind (arith, nat_tests))
 sound (b ∷ bs) zero low high e = led b bs (sound bs) e
-sound (b ∷ bs) (suc n) low high e = took n low high b bs (sound bs) (ap (λ (o : Option Pending). accepts o bs) (sym (stepped n low high b)) ∙ e)
+sound (b ∷ bs) (suc n) low high e = took n low high b bs (sound bs) (grind (arith, stepped n low high b, e))
 
 emptied : (u v bs : List ℕ) → Matches [] u → u ++ v ≡ bs → v ≡ bs
 emptied [] v bs m e = e

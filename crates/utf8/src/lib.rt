@@ -1,7 +1,7 @@
 // Whether bytes are UTF-8 by RFC 3629: no overlong forms, no surrogates, nothing above U+10FFFF.
 #![tactic(auto)]
 
-ghost use Rattle.std.specs.Prelude.{◌≡◌, Decides};
+ghost use Rattle.std.specs.Prelude.{◌≡◌, ◌↔◌, IsTrue};
 ghost use Rattle.utf8.specs.Grammar.{Utf8Octets};
 ghost use Rattle.utf8.specs.Machine.{Scanned, after, lead, pending};
 
@@ -70,25 +70,20 @@ fn step(state: Pending, b: u8) -> Option<Pending>
 }
 
 // Goes through the bytes, and says what is still wanted behind them: none where no text begins so.
+#[tactic(auto, using(std::proofs::lemmas::List::at_drop_more))]
 fn scan(bytes: &[u8]) -> Option<Pending>
     ensures { Scanned bytes.now result }
 {
     let mut state = tails(0);
     for b in bytes {
-        match step(state, *b) {
-            None => return None,
-            Some(next) => state = next,
-        }
+        state = step(state, *b)?;
     }
     Some(state)
 }
 
 // Text is whole where nothing more is wanted.
 pub fn is_utf8(bytes: &[u8]) -> bool
-    ensures { Decides result (Utf8Octets bytes.now) }
+    ensures { IsTrue result ↔ Utf8Octets bytes.now }
 {
-    match scan(bytes) {
-        Some(state) => state.more == 0,
-        None => false,
-    }
+    scan(bytes).is_some_and(|state| state.more == 0)
 }
