@@ -2,6 +2,7 @@
 use Rattle.std.proofs.Common.{◌≡◌, ℕ, suc, replicate, ◌+◌, ◌<◌, Bool, cond, List, [], ◌∷◌, ◌++◌, map, length, get_or, take, set, Some, refl, sym, ap, ◌∙◌, arith}
 use Rattle.std.specs.List.{position_from}
 use Rattle.std.proofs.lemmas.List.{map-set, get_or-map, set-get_or, take_more_set, length-map, length-take, take-map}
+use Rattle.host.specs.Laws.{written}
 use Rattle.storage.specs.declared.file.File.{File}
 use Rattle.files.specs.declared.files.Files.{Files}
 use Rattle.files.specs.Lists.{name_of, content_of, names}
@@ -22,10 +23,11 @@ pub names_kept : (xs : List File) (count i : ℕ) (x y : File) → i < length xs
 names_kept xs count i x y h s = sym (take-map name_of count (set xs i y)) ∙ ap (take count) (map_kept name_of xs i x y h s) ∙ take-map name_of count xs
 
 -- one file more: its name is the last
-pub names_more : (xs : List File) (count : ℕ) (y : File) (name : List ℕ) → count < length xs → name_of y ≡ name → map name_of (take (count + 1) (set xs count y)) ≡ map name_of (take count xs) ++ name ∷ []
-names_more xs count y name h e =
-    sym (take-map name_of (count + 1) (set xs count y))
-    ∙ ap (take (count + 1)) (map_put name_of xs count y name e)
+pub names_more : (xs : List File) (count i : ℕ) (y : File) (name : List ℕ) → count < length xs → i ≡ count → name_of y ≡ name → map name_of (take (count + 1) (set xs i y)) ≡ map name_of (take count xs) ++ name ∷ []
+names_more xs count i y name h e n =
+    ap (λ k. map name_of (take (count + 1) (set xs k y))) e
+    ∙ sym (take-map name_of (count + 1) (set xs count y))
+    ∙ ap (take (count + 1)) (map_put name_of xs count y name n)
     ∙ take_more_set (map name_of xs) count name (let l = length-map xs name_of in omega (arith, l))
     ∙ ap (λ ns. ns ++ name ∷ []) (take-map name_of count xs)
 
@@ -42,3 +44,9 @@ names_count fs = length-map (take fs.count fs.files) name_of ∙ length-take fs.
 pub all_empty : (xs : List File) (n : ℕ) → length xs ≡ n → ((i : ℕ) (d : File) → i < length xs → content_of (get_or xs i d) ≡ []) → map content_of xs ≡ replicate n []
 all_empty [] n long empty = ap (λ k. replicate k []) long
 all_empty (x ∷ xs) n long empty = (λ i. empty 0 x (omega arith) i ∷ all_empty xs (length xs) refl (λ k d h. empty (suc k) d (omega (arith, h))) i) ∙ ap (λ k. replicate k []) long
+
+pub content_emptied : (xs : List File) (i j : ℕ) (x y : File) → i < length xs → i ≡ j → content_of y ≡ [] → map content_of (set xs i y) ≡ set (map content_of xs) j []
+content_emptied xs i j x y h e w = content_put xs i j x y (λ bytes. []) h e w
+
+pub content_written : (xs : List File) (i j p : ℕ) (source : List ℕ) (x y : File) → i < length xs → i ≡ j → content_of y ≡ written (content_of (get_or xs i x)) p source → map content_of (set xs i y) ≡ set (map content_of xs) j (written (get_or (map content_of xs) j []) p source)
+content_written xs i j p source x y h e w = content_put xs i j x y (λ bytes. written bytes p source) h e w

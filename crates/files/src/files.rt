@@ -41,6 +41,7 @@ impl Files {
         &self.files[..self.count]
     }
 
+    #[tactic(auto, using(crate::proofs::Maps::names_count))]
     pub fn count(&self) -> usize
         ensures value { result ≡ length (names self.now) }
         ensures few { result ≤ 8 }
@@ -74,6 +75,7 @@ impl Files {
     }
 
     // Writes the bytes at the offset, with zeros in a gap before it. They fit, or the files stay.
+    #[tactic(auto, using(crate::proofs::Maps::names_kept, crate::proofs::Maps::content_written))]
     pub fn write(
         &mut self,
         file: FileNumber,
@@ -89,6 +91,7 @@ impl Files {
     }
 
     // Takes all bytes of the file away.
+    #[tactic(auto, using(crate::proofs::Maps::names_kept, crate::proofs::Maps::content_emptied))]
     pub fn clear(&mut self, file: FileNumber)
         ensures names { names self.new ≡ names self.old }
         ensures contents { contents self.new ≡ slice_set (contents self.old) file.number [] }
@@ -97,6 +100,7 @@ impl Files {
     }
 
     // A file without bytes, behind all others. There is none if eight exist or if the name is too long.
+    #[tactic(auto, using(crate::proofs::Maps::names_count, crate::proofs::Maps::names_more, crate::proofs::Maps::content_emptied))]
     pub fn create(&mut self, name: &[u8]) -> Option<FileNumber>
         ensures { Created self.old name.now result self.new }
     {

@@ -49,6 +49,7 @@ impl FileHost for Grudging {
         Err(self.code)
     }
 
+    #[tactic(auto, using(crate::proofs::Grudges::read_none, crate::proofs::Grudges::read_closed, crate::proofs::Grudges::read_one))]
     fn read_stream(&mut self, input: Handle, buffer: &mut [u8]) -> Result<usize, StreamError> {
         if input.0 != 0 || !self.live[0] {
             return Err(StreamError::LastOperationFailed(self.code));
@@ -68,6 +69,7 @@ impl FileHost for Grudging {
         Err(self.code)
     }
 
+    #[tactic(auto, using(crate::proofs::Grudges::drop_past))]
     fn drop_handle(&mut self, handle: Handle) -> Result<(), DropFault> {
         // Of a slice that was changed through `get_mut`, no proof knows the elements.
         let index = handle.0 as usize;
@@ -94,6 +96,7 @@ impl DirHost for Grudging {
         Err(self.code)
     }
 
+    #[tactic(auto, using(crate::proofs::Grudges::entry_law))]
     fn entry(&mut self, _directory: Handle, _index: u32) -> Result<DirEntry, ErrorCode> {
         Err(self.code)
     }

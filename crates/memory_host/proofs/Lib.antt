@@ -4,3 +4,4 @@ mod Files
 mod Streams
 mod Directory
 mod Starts
+mod Kept

@@ -48,6 +48,7 @@ impl MemoryHost<'_> {
         }
     }
 
+    #[tactic(auto, using(std::proofs::lemmas::List::take_rest))]
     fn take_input(&mut self, buffer: &mut [u8]) -> Result<usize, StreamError>
         ensures { (result, buffer.new, state self.new) ≡ taking_input (state self.old) buffer.old }
     {

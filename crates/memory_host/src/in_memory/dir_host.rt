@@ -7,6 +7,7 @@ use types::{DescriptorFlags, Handle, Lookupflags, Oflags};
 
 impl<'a> DirHost for MemoryHost<'a> {
     // There are no links to follow.
+    #[tactic(auto, using(crate::proofs::Kept::open_kept))]
     fn open_at(
         &mut self,
         directory: Handle,
@@ -23,10 +24,12 @@ impl<'a> DirHost for MemoryHost<'a> {
         )
     }
 
+    #[tactic(auto, using(crate::proofs::Kept::count_kept))]
     fn entry_count(&mut self, directory: Handle) -> Result<u32, ErrorCode> {
         memory_dir::entry_count(&self.disk, directory)
     }
 
+    #[tactic(auto, using(crate::proofs::Kept::entry_kept))]
     fn entry(&mut self, directory: Handle, index: u32) -> Result<DirEntry, ErrorCode> {
         memory_dir::entry(&self.disk, directory, index)
     }

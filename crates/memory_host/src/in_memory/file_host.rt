@@ -13,6 +13,7 @@ impl<'a> FileHost for MemoryHost<'a> {
 
     ghost bounded = { bounds };
 
+    #[tactic(auto, using(crate::proofs::Kept::read_kept))]
     fn read_at(
         &mut self,
         file: Handle,
@@ -22,30 +23,37 @@ impl<'a> FileHost for MemoryHost<'a> {
         self.disk.read_at(file, buffer, offset)
     }
 
+    #[tactic(auto, using(crate::proofs::Kept::write_kept))]
     fn write_at(&mut self, file: Handle, bytes: &[u8], offset: u64) -> Result<usize, ErrorCode> {
         self.disk.write_at(file, bytes, offset)
     }
 
+    #[tactic(auto, using(crate::proofs::Kept::append_kept))]
     fn append(&mut self, file: Handle, bytes: &[u8]) -> Result<usize, ErrorCode> {
         self.disk.append(file, bytes)
     }
 
+    #[tactic(auto, using(crate::proofs::Kept::stat_kept))]
     fn stat(&mut self, node: Handle) -> Result<Stat, ErrorCode> {
         self.disk.stat(node)
     }
 
+    #[tactic(auto, using(crate::proofs::Kept::via_kept))]
     fn read_via_stream(&mut self, file: Handle, offset: u64) -> Result<FileStream, ErrorCode> {
         self.disk.read_via_stream(file, offset)
     }
 
+    #[tactic(auto, using(crate::proofs::Kept::stream_kept))]
     fn read_stream(&mut self, input: Handle, buffer: &mut [u8]) -> Result<usize, StreamError> {
         self.take(input, buffer)
     }
 
+    #[tactic(auto, using(crate::proofs::Kept::output_kept))]
     fn write_stream(&mut self, output: Handle, bytes: &[u8]) -> Result<(), ErrorCode> {
         self.give(output, bytes)
     }
 
+    #[tactic(auto, using(crate::proofs::Kept::drop_kept))]
     fn drop_handle(&mut self, handle: Handle) -> Result<(), DropFault> {
         self.disk.handles.put(handle, Open::Free);
         Ok(())
