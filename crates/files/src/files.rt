@@ -46,7 +46,7 @@ impl Files {
         ensures value { result ≡ length (names self.now) }
         ensures few { result ≤ 8 }
     {
-        self.count
+        self.listed().len()
     }
 
     pub fn find(&self, name: &[u8]) -> Option<FileNumber>
