@@ -6,6 +6,7 @@ ghost use Rattle.handles.specs.Slots.{open_at, opened_at, directory_at, file_at,
 use crate::file_number::FileNumber;
 use crate::open::{Node, Open, Opened};
 use errno::ErrorCode;
+use std::marker::Model;
 use types::{DescriptorFlags, Flags, Handle};
 
 #[derive(Debug, PartialEq, Eq, Drop)]
@@ -13,9 +14,23 @@ pub struct Handles {
     pub(crate) slots: [Open; 80],
 }
 
+// Contracts see what is behind each handle, as a list.
+impl Model for Handles {
+    ghost use Rattle.std.specs.Prelude.{◌≡◌, List, length};
+    ghost use Rattle.handles.specs.declared.open.Open.{Open as OpenOf};
+
+    ghost Value = { List OpenOf };
+
+    ghost view = { λ handles. handles.slots };
+
+    ghost invariant = { λ handles. length handles.slots ≡ 80 };
+
+    ghost inverse = { λ slots. record { slots = slots } };
+}
+
 impl Handles {
     pub fn new() -> Handles
-        ensures { result.slots ≡ replicate 80 Free }
+        ensures { result ≡ replicate 80 Free }
     {
         Handles {
             slots: [Open::Free; 80],
@@ -23,7 +38,7 @@ impl Handles {
     }
 
     pub fn get(&self, handle: Handle) -> Open
-        ensures { result ≡ open_at self.now.slots handle.0 }
+        ensures { result ≡ open_at self.now handle.0 }
     {
         self.slots
             .get(handle.0 as usize)
@@ -33,7 +48,7 @@ impl Handles {
 
     // The file or the directory behind the handle.
     pub fn opened(&self, handle: Handle) -> Result<Opened, ErrorCode>
-        ensures { result ≡ opened_at self.now.slots handle.0 }
+        ensures { result ≡ opened_at self.now handle.0 }
     {
         match self.get(handle) {
             Open::Node(opened) => Ok(opened),
@@ -42,7 +57,7 @@ impl Handles {
     }
 
     pub fn directory(&self, handle: Handle) -> Result<(), ErrorCode>
-        ensures { result ≡ directory_at self.now.slots handle.0 }
+        ensures { result ≡ directory_at self.now handle.0 }
     {
         match self.opened(handle)?.node {
             Node::Directory => Ok(()),
@@ -51,7 +66,7 @@ impl Handles {
     }
 
     pub fn file(&self, handle: Handle) -> Result<(FileNumber, DescriptorFlags), ErrorCode>
-        ensures { result ≡ file_at self.now.slots handle.0 }
+        ensures { result ≡ file_at self.now handle.0 }
     {
         let opened = self.opened(handle)?;
         match opened.node {
@@ -66,7 +81,7 @@ impl Handles {
         handle: Handle,
         needed: DescriptorFlags,
     ) -> Result<(FileNumber, DescriptorFlags), ErrorCode>
-        ensures { result ≡ file_for self.now.slots handle.0 needed.0 }
+        ensures { result ≡ file_for self.now handle.0 needed.0 }
     {
         let (file, flags) = self.file(handle)?;
         if !flags.contains(needed) {
@@ -76,8 +91,9 @@ impl Handles {
     }
 
     // What was behind the handle is there no more. A number behind all handles stays free.
+    #[tactic(auto, using(std::proofs::lemmas::List::set_past))]
     pub fn put(&mut self, handle: Handle, opened: Open)
-        ensures { self.new.slots ≡ slice_set self.old.slots handle.0 opened }
+        ensures { self.new ≡ slice_set self.old handle.0 opened }
     {
         // Of a slice that was changed through `get_mut`, no proof knows the elements.
         let index = handle.0 as usize;
@@ -87,7 +103,7 @@ impl Handles {
     }
 
     pub fn first_free(&self) -> Option<Handle>
-        ensures { FirstFree self.now.slots result }
+        ensures { FirstFree self.now result }
     {
         let index = self.slots.iter().position(|slot| slot.is_free())?;
         Some(Handle(index as u32))

@@ -12,7 +12,7 @@ use types::{DescriptorFlags, Handle};
 impl Handles {
     // Ends all handles. None of the streams is a terminal.
     pub fn start(&mut self) -> Start
-        ensures { (Gives result) × (self.new.slots ≡ started) }
+        ensures { (Gives result) × (self.new ≡ started) }
     {
         self.slots = [Open::Free; 80];
         self.slots[0] = Open::Stdin;

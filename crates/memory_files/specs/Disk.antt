@@ -13,7 +13,7 @@ pub record Disk : Type 0 where
   pub contents : List (List ℕ)  -- of all eight
 
 abbrev pub disk : MemoryDisk → Disk
-disk d = record { slots = d.handles.slots; names = lists.names d.files; contents = lists.contents d.files }
+disk d = record { slots = d.handles; names = lists.names d.files; contents = lists.contents d.files }
 
 -- nothing is open, and there are no files
 abbrev pub blank : Disk
