@@ -1,5 +1,5 @@
 -- The files as lists: the names of those that exist, in order, and the bytes of all eight.
-use Rattle.std.specs.Prelude.{◌≡◌, ℕ, ◌<◌, ◌≤◌, cond, ◌⊎◌, List, [], ◌∷◌, ◌++◌, map, length, take, Some, None, Ok, Err, Option, Result, nat_lt, slice_index_or, slice_set}
+use Rattle.std.specs.Prelude.{◌≡◌, ℕ, ◌<◌, ◌≤◌, if◌then◌else◌, ◌⊎◌, List, [], ◌∷◌, ◌++◌, map, length, take, Some, None, Ok, Err, Option, Result, nat_lt, slice_index_or, slice_set}
 use Rattle.errno.specs.declared.ErrorCode.{ErrorCode}
 use Rattle.errno.specs.declared.ErrorCode.TheVariants.{Exist, FileTooLarge, NoEntry, InsufficientSpace}
 use Rattle.std.specs.List.{position_from}
@@ -37,11 +37,16 @@ abbrev pub Outcome : Type 0
 Outcome = Result (Unit {0}) ErrorCode × List (List ℕ) × List (List ℕ)
 
 abbrev pub put_new : List (List ℕ) → List (List ℕ) → List ℕ → List ℕ → Outcome
-put_new ns cs name bytes = cond (nat_lt 2048 (length bytes)) (Err FileTooLarge, ns, cs) (cond (nat_lt (length ns) 8) (Ok tt, ns ++ name ∷ [], slice_set cs (length ns) bytes) (Err InsufficientSpace, ns, cs))
+put_new ns cs name bytes =
+    if nat_lt 2048 (length bytes) then (Err FileTooLarge, ns, cs)
+    else if nat_lt (length ns) 8 then (Ok tt, ns ++ name ∷ [], slice_set cs (length ns) bytes)
+    else (Err InsufficientSpace, ns, cs)
 
 -- a file is added under a name that can be opened and that no file has
 abbrev pub put_file : List (List ℕ) → List (List ℕ) → List ℕ → List ℕ → Outcome
-put_file ns cs name bytes = cond (is_name name) (elim (index_of name ns) [ Some i ↦ (Err Exist, ns, cs) | None ↦ put_new ns cs name bytes ]) (Err NoEntry, ns, cs)
+put_file ns cs name bytes =
+    if is_name name then elim (index_of name ns) [ Some i ↦ (Err Exist, ns, cs) | None ↦ put_new ns cs name bytes ]
+    else (Err NoEntry, ns, cs)
 
 abbrev pub file_in : List (List ℕ) → List (List ℕ) → List ℕ → Option (List ℕ)
 file_in ns cs name = elim (index_of name ns) [ Some i ↦ Some (slice_index_or cs i []) | None ↦ None ]

@@ -14,7 +14,9 @@ Is outcome answer fuel = (answer ≡ outcome.0) × (fuel ≡ outcome.1)
 
 -- a charge larger than the fuel is refused with nomem and leaves it; otherwise it is taken, and what is next happens with the rest
 abbrev pub charge : {X : Type 0} → ℕ → ℕ → (ℕ → Outcome X) → Outcome X
-charge amount fuel next = if nat_le amount fuel then next (fuel - amount) else (Err (Errno Nomem), fuel)
+charge amount fuel next =
+    if nat_le amount fuel then next (fuel - amount)
+    else (Err (Errno Nomem), fuel)
 
 abbrev pub charged : ℕ → ℕ → Outcome (Unit {0})
 charged amount fuel = charge amount fuel (λ rest. (Ok tt, rest))

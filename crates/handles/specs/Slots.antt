@@ -1,5 +1,5 @@
 -- What is behind a handle, and which one is free.
-use Rattle.std.specs.Prelude.{◌≡◌, ℕ, Bool, true, false, cond, List, Some, None, Ok, Err, Option, Result, slice_index_or}
+use Rattle.std.specs.Prelude.{◌≡◌, ℕ, Bool, true, false, if◌then◌else◌, List, Some, None, Ok, Err, Option, Result, slice_index_or}
 use Rattle.std.specs.List.{position_from}
 use Rattle.errno.specs.declared.ErrorCode.{ErrorCode}
 use Rattle.errno.specs.declared.ErrorCode.TheVariants.{BadDescriptor}
@@ -41,7 +41,7 @@ abbrev pub file_at : List Open → ℕ → Result (FileNumber × DescriptorFlags
 file_at slots h = file_of (opened_at slots h)
 
 abbrev pub for_use : Result (FileNumber × DescriptorFlags) ErrorCode → ℕ → Result (FileNumber × DescriptorFlags) ErrorCode
-for_use (Ok f) needed = cond (contains f.1.0 needed) (Ok f) (Err BadDescriptor)
+for_use (Ok f) needed = if contains f.1.0 needed then Ok f else Err BadDescriptor
 for_use (Err c) needed = Err c
 
 abbrev pub file_for : List Open → ℕ → ℕ → Result (FileNumber × DescriptorFlags) ErrorCode

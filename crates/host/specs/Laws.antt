@@ -1,6 +1,6 @@
 -- The law of each asking: meaning and buffer before, arguments, answer, buffer and meaning after.
 -- A refusal leaves both as they were. What is answered is answered of a live handle of the kind that fits.
-use Rattle.std.specs.Prelude.{◌≡◌, ℕ, ◌+◌, ◌-◌, ◌<◌, ◌≤◌, min, Bool, true, false, cond, T, List, [], ◌∷◌, ◌++◌, map, length, take, drop, replicate, Some, None, Ok, Err, Option, Result, ◌==◌}
+use Rattle.std.specs.Prelude.{◌≡◌, ℕ, ◌+◌, ◌-◌, ◌<◌, ◌≤◌, min, Bool, true, false, if◌then◌else◌, IsTrue, List, [], ◌∷◌, ◌++◌, map, length, take, drop, replicate, Some, None, Ok, Err, Option, Result, ◌==◌}
 use Rattle.errno.specs.declared.ErrorCode.{ErrorCode}
 use Rattle.types.specs.declared.filetype.Filetype.{Filetype}
 use Rattle.types.specs.declared.filetype.Filetype.TheVariants.{Unknown, BlockDevice, CharacterDevice, Directory, RegularFile, SymbolicLink}
@@ -128,8 +128,8 @@ done m node (added a) = record { live = m.live; filetype = at node (Some a.filet
 
 abbrev pub Allowed : Meaning → ℕ → ℕ → Effect → Type 0
 Allowed m oflags node nothing = Unit {0}
-Allowed m oflags node emptied = T (contains oflags trunc)
-Allowed m oflags node (added a) = T (contains oflags creat) × (m.filetype node ≡ None) × (node_kind a.filetype ≡ FileNode) × (m.filetype a.directory ≡ Some Directory) × (a.index ≤ length (m.listing a.directory))
+Allowed m oflags node emptied = IsTrue (contains oflags trunc)
+Allowed m oflags node (added a) = IsTrue (contains oflags creat) × (m.filetype node ≡ None) × (node_kind a.filetype ≡ FileNode) × (m.filetype a.directory ≡ Some Directory) × (a.index ≤ length (m.listing a.directory))
 
 pub record Opened (m : Meaning) (oflags : ℕ) (fresh : Fresh) (m' : Meaning) : Type 0 where
   pub effect : Effect
@@ -175,7 +175,7 @@ given s = s.stdin.handle.0 ∷ s.stdout.handle.0 ∷ s.stderr.handle.0 ∷ map (
 
 abbrev pub among : ℕ → List ℕ → Bool
 among x [] = false
-among x (y ∷ ys) = cond (x == y) true (among x ys)
+among x (y ∷ ys) = if x == y then true else among x ys
 
 -- no two alike
 abbrev pub Apart : List ℕ → Type 0

@@ -1,5 +1,5 @@
 -- What a host means: the handles that it holds open, and the nodes that lie behind them.
-use Rattle.std.specs.Prelude.{ℕ, ◌^◌, ◌≤◌, cond, List, [], ◌∷◌, length, drop, Option, ◌==◌}
+use Rattle.std.specs.Prelude.{ℕ, ◌^◌, ◌≤◌, if◌then◌else◌, List, [], ◌∷◌, length, drop, Option, ◌==◌}
 use Rattle.errno.specs.declared.ErrorCode.{ErrorCode}
 use Rattle.types.specs.declared.filetype.Filetype.{Filetype}
 use Rattle.types.specs.declared.flags.DescriptorFlags.{DescriptorFlags}
@@ -54,7 +54,7 @@ waits m node (place p) = drop p (m.content node)
 
 -- a function that answers x at n, and elsewhere as before
 abbrev pub at : {X : Type 0} → ℕ → X → (ℕ → X) → ℕ → X
-at n x f k = cond (k == n) x (f k)
+at n x f k = if k == n then x else f k
 
 -- a meaning in which one thing is another, and everything else the same
 abbrev pub with_handles : Meaning → (ℕ → Option Live) → Meaning

@@ -10,9 +10,6 @@ use types::Handle;
 pub trait FileHost {
     ghost meaning: { Self → Meaning };
 
-    // No host goes beyond the limits.
-    ghost bounded: { (host : Self) → Bounded (meaning host) };
-
     // Reads from the file at the offset into the front of the buffer.
     fn read_at(&mut self, file: Handle, buffer: &mut [u8], offset: u64) -> Result<usize, ErrorCode>
         ensures { ReadAt (meaning self.old) file.0 offset buffer.old result buffer.new (meaning self.new) };
@@ -43,4 +40,7 @@ pub trait FileHost {
 
     fn drop_handle(&mut self, handle: Handle) -> Result<(), DropFault>
         ensures { DropHandle (meaning self.old) handle.0 (meaning self.new) };
+
+    // No host goes beyond the limits.
+    ghost bounded: { (host : Self) → Bounded (meaning host) };
 }

@@ -1,14 +1,16 @@
 -- What the grudging host means: three streams, and zeros that wait on the first.
-use Rattle.std.specs.Prelude.{ℕ, Bool, false, cond, [], replicate, Some, None, Option, ◌==◌, slice_index_or}
+use Rattle.std.specs.Prelude.{ℕ, Bool, false, if◌then◌else◌, [], replicate, Some, None, Option, ◌==◌, slice_index_or}
 use Rattle.std.proofs.Common.{arith}
 use Rattle.host.specs.Meaning.{Live, Kind, input, queue, output, Meaning, Bounded}
 use Rattle.host_tests.specs.declared.grudging.Grudging.{Grudging}
 
 abbrev pub stream_kind : ℕ → Kind
-stream_kind h = cond (h == 0) (input queue) output
+stream_kind h = if h == 0 then input queue else output
 
 abbrev pub live_if : ℕ → Bool → Option Live
-live_if h open-now = cond open-now (Some (record { kind = stream_kind h; node = h; flags = record { 0 = 0 } })) None
+live_if h open-now =
+    if open-now then Some (record { kind = stream_kind h; node = h; flags = record { 0 = 0 } })
+    else None
 
 abbrev pub meaning_of : Grudging → Meaning
 meaning_of g = record {
@@ -17,7 +19,7 @@ meaning_of g = record {
   serial = λ node. 0;
   content = λ node. [];
   listing = λ node. [];
-  waiting = λ node. cond (node == 0) (replicate g.waiting 0) [];
+  waiting = λ node. if node == 0 then replicate g.waiting 0 else [];
   taken = λ node. [];
 }
 

@@ -1,5 +1,5 @@
 -- A guest's memory, and what may be named in it.
-use Rattle.std.specs.Prelude.{ℕ, ◌+◌, Bool, cond, List, ◌++◌, length, take, drop, Ok, Err, Result, nat_le}
+use Rattle.std.specs.Prelude.{ℕ, ◌+◌, Bool, if◌then◌else◌, List, ◌++◌, length, take, drop, Ok, Err, Result, nat_le}
 use Rattle.errno.specs.declared.Error.{Error}
 use Rattle.errno.specs.declared.Error.TheVariants.{Errno, Trap}
 use Rattle.errno.specs.declared.TrapCause.TheVariants.{Pointer}
@@ -27,4 +27,4 @@ abbrev pub in_memory : List ℕ → ℕ → ℕ → Bool
 in_memory memory ptr n = nat_le (ptr + n) (length memory)
 
 abbrev pub checked : List ℕ → Region → Result (Unit {0}) GuestError
-checked memory region = cond (in_memory memory region.ptr region.len) (Ok tt) (Err PtrOutOfBounds)
+checked memory region = if in_memory memory region.ptr region.len then Ok tt else Err PtrOutOfBounds

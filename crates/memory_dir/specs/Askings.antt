@@ -1,5 +1,5 @@
 -- What is answered to an asking of the directory, and what there is after it.
-use Rattle.std.specs.Prelude.{◌≡◌, ℕ, ◌+◌, ◌≤◌, cond, ◌&&◌, ◌||◌, List, [], ◌∷◌, ◌++◌, length, Some, None, Ok, Err, MatchBool, Option, Result, nat_lt, slice_index_or, slice_set}
+use Rattle.std.specs.Prelude.{◌≡◌, ℕ, ◌+◌, ◌≤◌, if◌then◌else◌, ◌&&◌, ◌||◌, List, [], ◌∷◌, ◌++◌, length, Some, None, Ok, Err, MatchBool, Option, Result, nat_lt, slice_index_or, slice_set}
 use Rattle.errno.specs.declared.ErrorCode.{ErrorCode}
 use Rattle.errno.specs.declared.ErrorCode.TheVariants.{Exist, IsDirectory, NoEntry, InsufficientSpace, NotDirectory}
 use Rattle.types.specs.declared.Handle.{Handle}
@@ -30,7 +30,9 @@ abbrev pub entry_count : Disk → ℕ → Result ℕ ErrorCode
 entry_count d h = count_in d (directory_at d.slots h)
 
 abbrev pub entry_of : List (List ℕ) → ℕ → Result DirEntry ErrorCode
-entry_of names i = cond (nat_lt i (length names)) (Ok (record { filetype = RegularFile; serial = i + 1; name = record { items = slice_index_or names i [] } })) (Err NoEntry)
+entry_of names i =
+    if nat_lt i (length names) then Ok (record { filetype = RegularFile; serial = i + 1; name = record { items = slice_index_or names i [] } })
+    else Err NoEntry
 
 abbrev pub entry_in : Disk → Result (Unit {0}) ErrorCode → ℕ → Result DirEntry ErrorCode
 entry_in d (Ok is) i = entry_of d.names i
@@ -46,15 +48,20 @@ abbrev pub fresh : NodeKind → Handle → Fresh
 fresh kind h = record { handle = h; kind = kind }
 
 abbrev pub open_directory : Disk → ℕ → DescriptorFlags → Outcome Fresh
-open_directory d oflags flags = cond (contains oflags creat || contains oflags trunc) (Err IsDirectory, d) (give d (node_of Directory flags) (fresh DirectoryNode) (first_free d.slots))
+open_directory d oflags flags =
+    if contains oflags creat || contains oflags trunc then (Err IsDirectory, d)
+    else give d (node_of Directory flags) (fresh DirectoryNode) (first_free d.slots)
 
 -- a file that is there, emptied if that is asked
 abbrev pub give_file : Disk → FileNumber → ℕ → DescriptorFlags → Option ℕ → Outcome Fresh
 give_file d f oflags flags None = (Err InsufficientSpace, d)
-give_file d f oflags flags (Some h) = give (cond (contains oflags trunc) (with_content d f []) d) (node_of (File f) flags) (fresh FileNode) (Some h)
+give_file d f oflags flags (Some h) = give (if contains oflags trunc then with_content d f [] else d) (node_of (File f) flags) (fresh FileNode) (Some h)
 
 abbrev pub open_existing : Disk → FileNumber → ℕ → DescriptorFlags → Outcome Fresh
-open_existing d f oflags flags = cond (contains oflags creat && contains oflags excl) (Err Exist, d) (cond (contains oflags directory) (Err NotDirectory, d) (give_file d f oflags flags (first_free d.slots)))
+open_existing d f oflags flags =
+    if contains oflags creat && contains oflags excl then (Err Exist, d)
+    else if contains oflags directory then (Err NotDirectory, d)
+    else give_file d f oflags flags (first_free d.slots)
 
 -- the number that a new file gets, if there is room for one
 abbrev pub Next : List (List ℕ) → Option FileNumber → Type 0

@@ -1,5 +1,5 @@
 -- What is answered to an asking of a file, and what there is after it.
-use Rattle.std.specs.Prelude.{ℕ, ◌+◌, ◌-◌, min, cond, List, length, drop, Some, None, Ok, Err, Option, Result, ◌==◌, nat_le, slice_set}
+use Rattle.std.specs.Prelude.{ℕ, ◌+◌, ◌-◌, min, if◌then◌else◌, List, length, drop, Some, None, Ok, Err, Option, Result, ◌==◌, nat_le, slice_set}
 use Rattle.errno.specs.declared.ErrorCode.{ErrorCode}
 use Rattle.errno.specs.declared.ErrorCode.TheVariants.{BadDescriptor, FileTooLarge, InsufficientSpace}
 use Rattle.types.specs.declared.Handle.{Handle}
@@ -34,7 +34,9 @@ abbrev pub read_at : Disk → ℕ → ℕ → List ℕ → Result ℕ ErrorCode 
 read_at d h p buffer = read_from d (file_for d.slots h read) p buffer
 
 abbrev pub put_bytes : Disk → FileNumber → ℕ → List ℕ → Outcome ℕ
-put_bytes d f p bytes = cond (too_large 2048 p bytes) (Err FileTooLarge, d) (Ok (length bytes), with_content d f (written (content d f) p bytes))
+put_bytes d f p bytes =
+    if too_large 2048 p bytes then (Err FileTooLarge, d)
+    else (Ok (length bytes), with_content d f (written (content d f) p bytes))
 
 abbrev pub write_to : Disk → Result (FileNumber × DescriptorFlags) ErrorCode → ℕ → List ℕ → Outcome ℕ
 write_to d (Ok f) p bytes = put_bytes d f.0 p bytes
@@ -52,7 +54,9 @@ append d h bytes = append_to d (file_for d.slots h write) bytes
 
 abbrev pub stat_node : Disk → NodeOf → DescriptorFlags → Result Stat ErrorCode
 stat_node d Directory flags = Ok (record { filetype = DirectoryType; flags = flags; serial = 0; size = 0 })
-stat_node d (File f) flags = cond (nat_le (length d.names) f.number) (Err BadDescriptor) (Ok (record { filetype = RegularFile; flags = flags; serial = f.number + 1; size = length (content d f) }))
+stat_node d (File f) flags =
+    if nat_le (length d.names) f.number then Err BadDescriptor
+    else Ok (record { filetype = RegularFile; flags = flags; serial = f.number + 1; size = length (content d f) })
 
 abbrev pub stat_of : Disk → Result Opened ErrorCode → Result Stat ErrorCode
 stat_of d (Ok opened) = stat_node d opened.node opened.flags
@@ -79,7 +83,10 @@ Taking S = Result ℕ StreamError × List ℕ × S
 
 -- of the bytes from p on, all for which there is room are taken; without any the stream has ended
 abbrev pub taking : {S : Type 0} → List ℕ → ℕ → List ℕ → S → (ℕ → S) → Taking S
-taking bytes p buffer before after = cond (length buffer == 0) (Ok 0, buffer, before) (cond (nat_le (length bytes) p) (Err Closed, buffer, before) (let k = min (length buffer) (length bytes - p) in (Ok k, filled (drop p bytes) k buffer, after k)))
+taking bytes p buffer before after =
+    if length buffer == 0 then (Ok 0, buffer, before)
+    else if nat_le (length bytes) p then (Err Closed, buffer, before)
+    else let k = min (length buffer) (length bytes - p) in (Ok k, filled (drop p bytes) k buffer, after k)
 
 abbrev pub moved : StreamOf → ℕ → StreamOf
 moved stream k = record { file = stream.file; flags = stream.flags; place = stream.place + k }

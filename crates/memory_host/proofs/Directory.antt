@@ -1,5 +1,5 @@
 -- The answers on the directory keep the laws.
-use Rattle.std.proofs.Common.{◌≡◌, ℕ, zero, suc, ◌+◌, ◌<◌, Bool, true, false, cond, ◌&&◌, ◌||◌, T, eqb, ltb, List, [], ◌∷◌, ◌++◌, length, get_or, drop, Some, None, Ok, Err, MatchBool, Option, Result, sym, refl, ap, ◌∙◌, subst, arith}
+use Rattle.std.proofs.Common.{◌≡◌, ℕ, zero, suc, ◌+◌, ◌<◌, Bool, true, false, cond, ◌&&◌, ◌||◌, eqb, ltb, List, [], ◌∷◌, ◌++◌, length, get_or, drop, Some, None, Ok, Err, MatchBool, Option, Result, sym, refl, ap, ◌∙◌, subst, arith}
 use Rattle.std.proofs.lemmas.List.{drop_all, take_all, length-append}
 use Rattle.std.proofs.lemmas.List.Quantifiers.{position-Some}
 use Rattle.std.proofs.lemmas.Iterator.Adapters.{position_from-zero}
@@ -171,7 +171,7 @@ module _ (s : State) (h oflags : ℕ) (flags : DescriptorFlags) (eight : length 
           effect = emptied;
           opened = opened_file f;
           filetype = RegularFile;
-          allowed = subst T (sym t) tt;
+          allowed = t;
           new = l.1;
           typed = type_there s.disk.names f.number f.small below;
           kind = (refl, refl);
@@ -209,7 +209,7 @@ module _ (s : State) (h oflags : ℕ) (flags : DescriptorFlags) (eight : length 
           effect = added (addition s name f.number);
           opened = opened_file f;
           filetype = RegularFile;
-          allowed = (subst T (sym t) tt, type_missing s.disk.names f.number f.small n, refl, refl, omega (arith, counted 0 s.disk.names));
+          allowed = (t, type_missing s.disk.names f.number f.small n, refl, refl, omega (arith, counted 0 s.disk.names));
           new = l.1;
           typed = cond-true (eqb f.number f.number) _ _ (eq-eqb f.number f.number refl);
           kind = (refl, refl);

@@ -1,5 +1,5 @@
 -- What the memory host holds, and what that means.
-use Rattle.std.specs.Prelude.{ℕ, ◌+◌, cond, List, [], ◌∷◌, length, Some, None, Option, ◌==◌, nat_lt, slice_index_or}
+use Rattle.std.specs.Prelude.{ℕ, ◌+◌, if◌then◌else◌, List, [], ◌∷◌, length, Some, None, Option, ◌==◌, nat_lt, slice_index_or}
 use Rattle.types.specs.declared.filetype.Filetype.{Filetype}
 use Rattle.types.specs.declared.filetype.Filetype.TheVariants.{Directory, RegularFile}
 use Rattle.host.specs.Meaning.{Entry, readable, Meaning}
@@ -25,10 +25,13 @@ empty input = record { disk = blank; input = input; stdout = []; stderr = [] }
 
 -- files have the serial numbers from 1 on, the directory has 0
 abbrev pub serial_of : ℕ → ℕ
-serial_of node = cond (node == directory_node) 0 (node + 1)
+serial_of node = if node == directory_node then 0 else node + 1
 
 abbrev pub type_of : List (List ℕ) → ℕ → Option Filetype
-type_of names node = cond (node == directory_node) (Some Directory) (cond (nat_lt node (length names)) (Some RegularFile) None)
+type_of names node =
+    if node == directory_node then Some Directory
+    else if nat_lt node (length names) then Some RegularFile
+    else None
 
 -- the entries of the files from a node on
 abbrev pub entries : ℕ → List (List ℕ) → List Entry
@@ -41,9 +44,9 @@ means s = record {
   filetype = type_of s.disk.names;
   serial = serial_of;
   content = λ node. slice_index_or s.disk.contents node [];
-  listing = λ node. cond (node == directory_node) (entries 0 s.disk.names) [];
-  waiting = λ node. cond (node == stdin_node) s.input [];
-  taken = λ node. cond (node == stdout_node) s.stdout (cond (node == stderr_node) s.stderr []);
+  listing = λ node. if node == directory_node then entries 0 s.disk.names else [];
+  waiting = λ node. if node == stdin_node then s.input else [];
+  taken = λ node. if node == stdout_node then s.stdout else if node == stderr_node then s.stderr else [];
 }
 
 abbrev pub meaning_of : MemoryHost → Meaning

@@ -1,5 +1,5 @@
 -- What the memory host answers to an asking of a stream, and what it holds then.
-use Rattle.std.specs.Prelude.{ℕ, ◌+◌, cond, List, ◌++◌, length, drop, Ok, Err, Result, nat_lt, slice_set}
+use Rattle.std.specs.Prelude.{ℕ, ◌+◌, if◌then◌else◌, List, ◌++◌, length, drop, Ok, Err, Result, nat_lt, slice_set}
 use Rattle.errno.specs.declared.ErrorCode.{ErrorCode}
 use Rattle.errno.specs.declared.ErrorCode.TheVariants.{BadDescriptor, InsufficientSpace}
 use Rattle.host.specs.declared.answers.StreamError.TheVariants.{LastOperationFailed}
@@ -39,7 +39,9 @@ with_outputs s stdout stderr = record { disk = s.disk; input = s.input; stdout =
 
 -- an output takes at most 8,192 bytes
 abbrev pub output_takes : List ℕ → List ℕ → State → State → Outcome (Unit {0})
-output_takes taken piece s after = cond (nat_lt 8192 (length taken + length piece)) (Err InsufficientSpace, s) (Ok tt, after)
+output_takes taken piece s after =
+    if nat_lt 8192 (length taken + length piece) then (Err InsufficientSpace, s)
+    else (Ok tt, after)
 
 abbrev pub output_to : State → Open → List ℕ → Outcome (Unit {0})
 output_to s Free piece = (Err BadDescriptor, s)

@@ -3,9 +3,11 @@ ghost use Rattle.std.specs.Prelude.{◌≡◌, ◌^◌, ◌<◌};
 ghost use Rattle.records.specs.Layout.{dirent_bytes, dirent_of};
 ghost use Rattle.std.proofs.Common.{rules};
 
-use crate::{GuestType, Layout, array_at, load, store};
+use crate::{GuestType, Layout, array_at};
 use memory::GuestError;
 use types::Filetype;
+
+const LAYOUT: Layout = Layout { size: 24, align: 8 };
 
 #[derive(Clone, Copy, Debug, PartialEq, Eq)]
 pub struct Dirent {
@@ -17,6 +19,7 @@ pub struct Dirent {
 
 impl Dirent {
     // The whole record, for whoever copies as much of it as there is room for.
+    #[tactic(auto, using(crate::proofs::Numbers::bytes_of_four, crate::proofs::Numbers::bytes_of_eight))]
     pub fn to_bytes(&self) -> [u8; 24]
         ensures { result ≡ dirent_bytes self.now }
     {
@@ -29,17 +32,15 @@ impl Dirent {
     }
 }
 
-impl Layout for Dirent {
-    const SIZE: u32 = 24;
+impl GuestType for Dirent {
+    const SIZE: u32 = LAYOUT.size;
 
-    const ALIGN: u32 = 8;
+    const ALIGN: u32 = LAYOUT.align;
 
     ghost SIZE = { 24 };
 
     ghost ALIGN = { 8 };
-}
 
-impl GuestType for Dirent {
     ghost fits = { λ x. (x.d_next < 2 ^ 64) × (x.d_ino < 2 ^ 64) × (x.d_namlen < 2 ^ 32) };
 
     ghost bytes = { dirent_bytes };
@@ -51,7 +52,7 @@ impl GuestType for Dirent {
     ghost back = { Prim.search rules };
 
     fn read(memory: &[u8], ptr: u64) -> Result<Dirent, GuestError> {
-        let bytes = load::<Self>(memory, ptr)?;
+        let bytes = LAYOUT.load(memory, ptr)?;
         Ok(Dirent {
             d_next: u64::from_le_bytes(array_at(bytes, 0)),
             d_ino: u64::from_le_bytes(array_at(bytes, 8)),
@@ -61,6 +62,6 @@ impl GuestType for Dirent {
     }
 
     fn write(&self, memory: &mut [u8], ptr: u64) -> Result<(), GuestError> {
-        store::<Self>(memory, ptr, &self.to_bytes())
+        LAYOUT.store(memory, ptr, &self.to_bytes())
     }
 }

@@ -3,8 +3,10 @@ ghost use Rattle.std.specs.Prelude.{◌≡◌, ◌^◌, ◌<◌};
 ghost use Rattle.records.specs.Layout.{vector_bytes, vector_of};
 ghost use Rattle.std.proofs.Common.{rules};
 
-use crate::{GuestType, Layout, Vector, array_at, load, store};
+use crate::{GuestType, Layout, Vector, array_at};
 use memory::{GuestError, Region};
+
+const LAYOUT: Layout = Layout { size: 8, align: 4 };
 
 // A host only reads the buffer of a `Ciovec`, and fills that of an `Iovec`. Both lie alike.
 #[derive(Clone, Copy, Debug, PartialEq, Eq)]
@@ -28,17 +30,15 @@ impl<const READ_ONLY: bool> IoVector<READ_ONLY> {
     }
 }
 
-impl<const READ_ONLY: bool> Layout for IoVector<READ_ONLY> {
-    const SIZE: u32 = 8;
+impl<const READ_ONLY: bool> GuestType for IoVector<READ_ONLY> {
+    const SIZE: u32 = LAYOUT.size;
 
-    const ALIGN: u32 = 4;
+    const ALIGN: u32 = LAYOUT.align;
 
     ghost SIZE = { 8 };
 
     ghost ALIGN = { 4 };
-}
 
-impl<const READ_ONLY: bool> GuestType for IoVector<READ_ONLY> {
     ghost fits = { λ x. (x.buf < 2 ^ 32) × (x.buf_len < 2 ^ 32) };
 
     ghost bytes = { vector_bytes };
@@ -50,7 +50,7 @@ impl<const READ_ONLY: bool> GuestType for IoVector<READ_ONLY> {
     ghost back = { Prim.search rules };
 
     fn read(memory: &[u8], ptr: u64) -> Result<IoVector<READ_ONLY>, GuestError> {
-        let bytes = load::<Self>(memory, ptr)?;
+        let bytes = LAYOUT.load(memory, ptr)?;
         Ok(IoVector {
             buf: u32::from_le_bytes(array_at(bytes, 0)),
             buf_len: u32::from_le_bytes(array_at(bytes, 4)),
@@ -58,7 +58,7 @@ impl<const READ_ONLY: bool> GuestType for IoVector<READ_ONLY> {
     }
 
     fn write(&self, memory: &mut [u8], ptr: u64) -> Result<(), GuestError> {
-        store::<Self>(memory, ptr, &self.to_bytes())
+        LAYOUT.store(memory, ptr, &self.to_bytes())
     }
 }
 

@@ -14,8 +14,9 @@ mod io_vector;
 pub use dirent::Dirent;
 pub use io_vector::{Ciovec, IoVector, Iovec};
 
-// How many bytes a record has, and at multiples of what it may lie.
-pub trait Layout {
+// A record of witx in a guest's memory: how many bytes it has, at multiples of what it may lie, and how it is read and
+// written. Its address is given in 64 bits, so that those of an array do not wrap.
+pub trait GuestType: Sized {
     const SIZE: u32;
 
     const ALIGN: u32;
@@ -23,10 +24,7 @@ pub trait Layout {
     ghost SIZE: { ℕ };
 
     ghost ALIGN: { ℕ };
-}
 
-// A record of witx in a guest's memory. Its address is given in 64 bits, so that those of an array do not wrap.
-pub trait GuestType: Layout + Sized {
     // Each field is within its width.
     ghost fits: { Self → Type 0 };
 
@@ -35,12 +33,12 @@ pub trait GuestType: Layout + Sized {
     ghost parsed: { List ℕ → Self };
 
     fn read(memory: &[u8], ptr: u64) -> Result<Self, GuestError>
-        ensures { result ≡ read_at Self.SIZE Self.ALIGN parsed memory.now ptr };
+        ensures { result ≡ read_at SIZE ALIGN parsed memory.now ptr };
 
     fn write(&self, memory: &mut [u8], ptr: u64) -> Result<(), GuestError>
-        ensures { WriteAt Self.SIZE Self.ALIGN (bytes self.now) memory.old ptr result memory.new };
+        ensures { WriteAt SIZE ALIGN (bytes self.now) memory.old ptr result memory.new };
 
-    ghost long: { (x : Self) → length (bytes x) ≡ Self.SIZE };
+    ghost long: { (x : Self) → length (bytes x) ≡ SIZE };
 
     ghost back: { (x : Self) → fits x → parsed (bytes x) ≡ x };
 }
@@ -54,36 +52,43 @@ pub trait Vector: GuestType {
         ensures { result ≡ named self.now };
 }
 
-// The index of a record whose address is aligned and which ends within the memory.
-fn place<T: Layout>(memory: &[u8], ptr: u64) -> Result<usize, GuestError>
-    ensures { result ≡ placed T.SIZE T.ALIGN memory.now ptr ptr }
-{
-    if !ptr.is_multiple_of(T::ALIGN as u64) {
-        return Err(GuestError::PtrNotAligned);
-    }
-    match ptr.checked_add(T::SIZE as u64) {
-        Some(end) if end <= memory.len() as u64 => Ok(ptr as usize),
-        _ => Err(GuestError::PtrOutOfBounds),
-    }
+// A record's size and alignment, for reading and writing its bytes.
+#[derive(Clone, Copy)]
+struct Layout {
+    size: u32,
+    align: u32,
 }
 
-// The bytes of a record.
-fn load<T: Layout>(memory: &[u8], ptr: u64) -> Result<&[u8], GuestError>
-    ensures long { IfOk result (λ bytes. length bytes.now ≡ T.SIZE) }
-    ensures value { bytes_of result ≡ read_at T.SIZE T.ALIGN (λ bs. bs) memory.now ptr }
-{
-    let at = place::<T>(memory, ptr)?;
-    Ok(&memory[at..at + T::SIZE as usize])
-}
+impl Layout {
+    // The index of a record whose address is aligned and which ends within the memory.
+    fn place(self, memory: &[u8], ptr: u64) -> Result<usize, GuestError>
+        ensures { result ≡ placed self.size self.align memory.now ptr ptr }
+    {
+        if !ptr.is_multiple_of(self.align as u64) {
+            return Err(GuestError::PtrNotAligned);
+        }
+        match ptr.checked_add(self.size as u64) {
+            Some(end) if end <= memory.len() as u64 => Ok(ptr as usize),
+            _ => Err(GuestError::PtrOutOfBounds),
+        }
+    }
 
-// Puts the bytes of a record into the memory.
-fn store<T: Layout>(memory: &mut [u8], ptr: u64, bytes: &[u8]) -> Result<(), GuestError>
-    requires { length bytes.now ≡ T.SIZE }
-    ensures { WriteAt T.SIZE T.ALIGN bytes.now memory.old ptr result memory.new }
-{
-    let at = place::<T>(memory, ptr)?;
-    memory[at..at + bytes.len()].copy_from_slice(bytes);
-    Ok(())
+    fn load(self, memory: &[u8], ptr: u64) -> Result<&[u8], GuestError>
+        ensures long { IfOk result (λ bytes. length bytes.now ≡ self.size) }
+        ensures value { bytes_of result ≡ read_at self.size self.align (λ bs. bs) memory.now ptr }
+    {
+        let at = self.place(memory, ptr)?;
+        Ok(&memory[at..at + self.size as usize])
+    }
+
+    fn store(self, memory: &mut [u8], ptr: u64, bytes: &[u8]) -> Result<(), GuestError>
+        requires { length bytes.now ≡ self.size }
+        ensures { WriteAt self.size self.align bytes.now memory.old ptr result memory.new }
+    {
+        let at = self.place(memory, ptr)?;
+        memory[at..at + bytes.len()].copy_from_slice(bytes);
+        Ok(())
+    }
 }
 
 // The bytes of one field.

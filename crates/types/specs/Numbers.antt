@@ -1,5 +1,5 @@
 -- The numbers that witx gives file types and whence.
-use Rattle.std.specs.Prelude.{ℕ, cond, ◌==◌}
+use Rattle.std.specs.Prelude.{ℕ, if◌then◌else◌, ◌==◌}
 use Rattle.types.specs.declared.filetype.Filetype.{Filetype}
 use Rattle.types.specs.declared.filetype.Filetype.TheVariants.{Unknown, BlockDevice, CharacterDevice, Directory, RegularFile, SymbolicLink}
 use Rattle.types.specs.declared.whence.Whence.{Whence}
@@ -14,7 +14,13 @@ filetype_number RegularFile = 4
 filetype_number SymbolicLink = 7
 
 abbrev pub filetype_of : ℕ → Filetype
-filetype_of n = cond (n == 1) BlockDevice (cond (n == 2) CharacterDevice (cond (n == 3) Directory (cond (n == 4) RegularFile (cond (n == 7) SymbolicLink Unknown))))
+filetype_of n =
+    if n == 1 then BlockDevice
+    else if n == 2 then CharacterDevice
+    else if n == 3 then Directory
+    else if n == 4 then RegularFile
+    else if n == 7 then SymbolicLink
+    else Unknown
 
 abbrev pub whence_number : Whence → ℕ
 whence_number Set = 0

@@ -24,7 +24,10 @@ lead b =
     else None
 
 abbrev pub after : Pending → ℕ → Option Pending
-after p b = if p.more == 0 then lead b else if between p.low p.high b then Some (pending (p.more - 1) 0x80 0xBF) else None
+after p b =
+    if p.more == 0 then lead b
+    else if between p.low p.high b then Some (pending (p.more - 1) 0x80 0xBF)
+    else None
 
 abbrev pub accepts : Option Pending → List ℕ → Bool
 accepts None bs = false
