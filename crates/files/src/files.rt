@@ -20,6 +20,8 @@ pub struct Files {
     ghost eight: { length files ≡ 8 },
 }
 
+// Contracts speak of the names of the files that exist and of the contents of all places, not of both as one: mostly one
+// of the two changes, and a line says of the other that it stays.
 impl Files {
     ghost use Rattle.files.specs.Lists.{names, contents, name_of, index_of, Found, Created, put_new, put_file, file_in};
 

@@ -1,4 +1,4 @@
-// The table. A handle is its index.
+// The table, in fixed memory. A handle is its index.
 ghost use Rattle.std.specs.Prelude.{◌≡◌, ◌<◌, length, replicate, Some, None, slice_set};
 ghost use Rattle.handles.specs.declared.open.Open.TheVariants.{Free};
 ghost use Rattle.handles.specs.Slots.{open_at, opened_at, directory_at, file_at, file_for, first_free, FirstFree};
@@ -56,6 +56,7 @@ impl Handles {
         }
     }
 
+    // Here and in `file` each kind of node has an answer of its own, which a chain of adapters would not show.
     pub fn directory(&self, handle: Handle) -> Result<(), ErrorCode>
         ensures { result ≡ directory_at self.now handle.0 }
     {

@@ -9,12 +9,9 @@ use arrayvec::{ArrayVec, CapacityError};
 pub fn read_at(bytes: &[u8], offset: u64, buffer: &mut [u8]) -> usize
     ensures { (result ≡ min (length buffer.old) (length bytes.now - offset)) × (buffer.new ≡ filled (drop offset bytes.now) result buffer.old) }
 {
-    if offset >= bytes.len() as u64 {
-        return 0;
-    }
-    let start = offset as usize;
-    let n = buffer.len().min(bytes.len() - start);
-    buffer[0..n].copy_from_slice(&bytes[start..start + n]);
+    let behind = bytes.get(offset as usize..).unwrap_or(&[]);
+    let n = buffer.len().min(behind.len());
+    buffer[..n].copy_from_slice(&behind[..n]);
     n
 }
 
