@@ -5,22 +5,26 @@ use Rattle.std.proofs.lemmas.List.{map-set, get_or-map, set-get_or, take_more_se
 use Rattle.host.specs.Laws.{written}
 use Rattle.storage.specs.declared.file.File.{File}
 use Rattle.files.specs.declared.files.Files.{Files}
-use Rattle.files.specs.Lists.{name_of, content_of, names}
+use Rattle.storage.specs.File.{name_of, content_of}
+use Rattle.files.specs.Lists.{listing}
 
 -- searching what is seen is searching the list
 pub position_from-map : {X Y : Type 0} (test : Y → Bool) (f : X → Y) (n : ℕ) (xs : List X) → position_from test n (map f xs) ≡ position_from (λ x. test (f x)) n xs
 position_from-map test f n [] = refl
 position_from-map test f n (x ∷ xs) = ap (cond (test (f x)) (Some n)) (position_from-map test f (n + 1) xs)
 
-pub map_put : (f : File → List ℕ) (xs : List File) (i : ℕ) (y : File) (v : List ℕ) → f y ≡ v → map f (set xs i y) ≡ set (map f xs) i v
+map_put : (f : File → List ℕ) (xs : List File) (i : ℕ) (y : File) (v : List ℕ) → f y ≡ v → map f (set xs i y) ≡ set (map f xs) i v
 map_put f xs i y v e = map-set f xs i y ∙ ap (λ w. set (map f xs) i w) e
 
-pub map_kept : (f : File → List ℕ) (xs : List File) (i : ℕ) (x y : File) → i < length xs → f y ≡ f (get_or xs i x) → map f (set xs i y) ≡ map f xs
+map_kept : (f : File → List ℕ) (xs : List File) (i : ℕ) (x y : File) → i < length xs → f y ≡ f (get_or xs i x) → map f (set xs i y) ≡ map f xs
 map_kept f xs i x y h s = map_put f xs i y (get_or (map f xs) i []) (s ∙ sym (get_or-map f xs i x [] h)) ∙ set-get_or (map f xs) i []
 
 -- the names of those that exist stay, whichever file it is
 pub names_kept : (xs : List File) (count i : ℕ) (x y : File) → i < length xs → name_of y ≡ name_of (get_or xs i x) → map name_of (take count (set xs i y)) ≡ map name_of (take count xs)
 names_kept xs count i x y h s = sym (take-map name_of count (set xs i y)) ∙ ap (take count) (map_kept name_of xs i x y h s) ∙ take-map name_of count xs
+
+pub content_kept : (xs : List File) (i : ℕ) (x y : File) → i < length xs → content_of y ≡ content_of (get_or xs i x) → map content_of (set xs i y) ≡ map content_of xs
+content_kept xs i x y h s = map_kept content_of xs i x y h s
 
 -- one file more: its name is the last
 pub names_more : (xs : List File) (count i : ℕ) (y : File) (name : List ℕ) → count < length xs → i ≡ count → name_of y ≡ name → map name_of (take (count + 1) (set xs i y)) ≡ map name_of (take count xs) ++ name ∷ []
@@ -37,7 +41,7 @@ content_put xs i j x y v h e w =
     map_put content_of xs i y (v (get_or (map content_of xs) i [])) (w ∙ ap v (sym (get_or-map content_of xs i x [] h)))
     ∙ ap (λ k. set (map content_of xs) k (v (get_or (map content_of xs) k []))) e
 
-pub names_count : (fs : Files) → length (names fs) ≡ fs.count
+pub names_count : (fs : Files) → length (listing fs).names ≡ fs.count
 names_count fs = length-map (take fs.count fs.files) name_of ∙ length-take fs.count fs.files ∙ (omega (arith, fs.few, fs.eight))
 
 -- places that all hold a file without bytes

@@ -7,7 +7,7 @@ pub struct FileNumber {
     ghost small: { number < 8 },
 }
 
-// As std's `NonZero` has it: `TryFrom` would need an error that says no more than `None`.
+// `new` and `get`, as std's `NonZero` has them: an error type, for a `TryFrom`, would say no more than `None`.
 impl FileNumber {
     pub fn new(number: usize) -> Option<FileNumber>
         ensures some { IsSome result ↔ (number < 8) }

@@ -1,5 +1,6 @@
 // The table, in fixed memory. A handle is its index.
-ghost use Rattle.std.specs.Prelude.{◌≡◌, ◌<◌, length, replicate, Some, None, slice_set};
+ghost use Rattle.std.specs.Prelude.{◌≡◌, ◌<◌, length, replicate, Some, None, IfOk, IfErr, slice_set};
+ghost use Rattle.errno.specs.declared.ErrorCode.TheVariants.{InsufficientSpace};
 ghost use Rattle.handles.specs.declared.open.Open.TheVariants.{Free};
 ghost use Rattle.handles.specs.Slots.{open_at, opened_at, directory_at, file_at, file_for, first_free, FirstFree};
 
@@ -108,5 +109,13 @@ impl Handles {
     {
         let index = self.slots.iter().position(|slot| slot.is_free())?;
         Some(Handle(index as u32))
+    }
+
+    // The first free handle, for what is to be opened.
+    pub fn free_handle(&self) -> Result<Handle, ErrorCode>
+        ensures ok { IfOk result (λ h. first_free self.now ≡ Some h.0) }
+        ensures err { IfErr result (λ e. (e ≡ InsufficientSpace) × (first_free self.now ≡ None)) }
+    {
+        self.first_free().ok_or(ErrorCode::InsufficientSpace)
     }
 }

@@ -5,7 +5,7 @@ ghost use Rattle.handles.specs.Names.{is_dot, is_name};
 pub fn is_dot(path: &[u8]) -> bool
     ensures { result ≡ is_dot path.now }
 {
-    path.len() == 1 && path[0] == b'.'
+    path == b".".as_slice()
 }
 
 pub fn is_name(path: &[u8]) -> bool

@@ -52,12 +52,9 @@ pub enum Open {
 impl Open {
     ghost use Rattle.handles.specs.Slots.{is_free};
 
-    pub fn is_free(&self) -> bool
+    pub(crate) fn is_free(&self) -> bool
         ensures { result ≡ is_free self.now }
     {
-        match self {
-            Open::Free => true,
-            _ => false,
-        }
+        matches!(self, Open::Free)
     }
 }

@@ -14,7 +14,7 @@ impl Handles {
     pub fn start(&mut self) -> Start
         ensures { (Gives result) × (self.new ≡ started) }
     {
-        self.slots = [Open::Free; 80];
+        *self = Handles::new();
         self.slots[0] = Open::Stdin;
         self.slots[1] = Open::Stdout;
         self.slots[2] = Open::Stderr;

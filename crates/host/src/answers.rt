@@ -6,7 +6,7 @@ use arrayvec::ArrayVec;
 use errno::ErrorCode;
 use types::{DescriptorFlags, Filetype, Handle};
 
-// The bytes of a name, as many as there may be.
+// A name of at most 255 bytes.
 pub type Name = ArrayVec<u8, 255>;
 
 // Why a stream brings nothing: it has ended, or the host refused.
@@ -37,6 +37,7 @@ pub struct Stat {
 #[derive(Clone, Copy, Debug, PartialEq, Eq)]
 pub struct DropFault;
 
+// An entry of a directory, with its name.
 #[derive(Clone, Debug, PartialEq, Eq, Drop)]
 pub struct DirEntry {
     pub filetype: Filetype,

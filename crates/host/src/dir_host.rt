@@ -8,7 +8,7 @@ use errno::ErrorCode;
 use types::{DescriptorFlags, Handle, Lookupflags, Oflags};
 
 pub trait DirHost: FileHost {
-    // Opens a path below the directory.
+    // Opens a path below the directory. The two kinds of flags come apart, as in the source.
     fn open_at(
         &mut self,
         directory: Handle,

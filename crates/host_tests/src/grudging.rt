@@ -52,7 +52,7 @@ impl FileHost for Grudging {
     #[tactic(auto, using(crate::proofs::Grudges::read_none, crate::proofs::Grudges::read_closed, crate::proofs::Grudges::read_one))]
     fn read_stream(&mut self, input: Handle, buffer: &mut [u8]) -> Result<usize, StreamError> {
         if input.0 != 0 || !self.live[0] {
-            return Err(StreamError::LastOperationFailed(self.code));
+            return Err(StreamError::from(self.code));
         }
         if buffer.is_empty() {
             return Ok(0);

@@ -1,5 +1,6 @@
 -- A guest's memory, and what may be named in it.
 use Rattle.std.specs.Prelude.{ℕ, ◌+◌, Bool, if◌then◌else◌, List, ◌++◌, length, take, drop, Ok, Err, Result, nat_le}
+use Rattle.std.specs.Borrow.{Bor}
 use Rattle.errno.specs.declared.Error.{Error}
 use Rattle.errno.specs.declared.Error.TheVariants.{Errno, Trap}
 use Rattle.errno.specs.declared.TrapCause.TheVariants.{Pointer}
@@ -28,3 +29,8 @@ in_memory memory ptr n = nat_le (ptr + n) (length memory)
 
 abbrev pub checked : List ℕ → Region → Result (Unit {0}) GuestError
 checked memory region = if in_memory memory region.ptr region.len then Ok tt else Err PtrOutOfBounds
+
+-- an answer with the bytes themselves in place of a reference to them
+abbrev pub bytes_of : {E : Type 0} → Result (Bor (List ℕ)) E → Result (List ℕ) E
+bytes_of (Ok bytes) = Ok bytes.now
+bytes_of (Err e) = Err e

@@ -1,5 +1,5 @@
 -- What is answered to an asking of the directory, and what there is after it.
-use Rattle.std.specs.Prelude.{◌≡◌, ℕ, ◌+◌, ◌≤◌, if◌then◌else◌, ◌&&◌, ◌||◌, List, [], ◌∷◌, ◌++◌, length, Some, None, Ok, Err, MatchBool, Option, Result, nat_lt, slice_index_or, slice_set}
+use Rattle.std.specs.Prelude.{◌≡◌, ℕ, ◌+◌, ◌≤◌, if◌then◌else◌, ◌&&◌, ◌||◌, List, [], length, Some, None, Ok, Err, MatchBool, Option, Result, nat_lt, slice_index_or}
 use Rattle.errno.specs.declared.ErrorCode.{ErrorCode}
 use Rattle.errno.specs.declared.ErrorCode.TheVariants.{Exist, IsDirectory, NoEntry, InsufficientSpace, NotDirectory}
 use Rattle.types.specs.declared.Handle.{Handle}
@@ -18,12 +18,13 @@ use Rattle.handles.specs.declared.open.Node.TheVariants.{Directory, File}
 use Rattle.handles.specs.Slots.{directory_at, first_free}
 use Rattle.handles.specs.Names.{is_dot, is_name}
 use Rattle.files.specs.Lists.{Found}
-use Rattle.memory_files.specs.Disk.{Disk, with_content, Outcome}
+use Rattle.files.specs.Lists as lists
+use Rattle.memory_files.specs.Disk.{Disk, with_files, with_content, Outcome}
 use Rattle.memory_files.specs.Askings.{give}
 
 -- the entries' number, and the entry at an index
 abbrev pub count_in : Disk → Result (Unit {0}) ErrorCode → Result ℕ ErrorCode
-count_in d (Ok is) = Ok (length d.names)
+count_in d (Ok is) = Ok (length d.files.names)
 count_in d (Err c) = Err c
 
 abbrev pub entry_count : Disk → ℕ → Result ℕ ErrorCode
@@ -35,7 +36,7 @@ entry_of names i =
     else Err NoEntry
 
 abbrev pub entry_in : Disk → Result (Unit {0}) ErrorCode → ℕ → Result DirEntry ErrorCode
-entry_in d (Ok is) i = entry_of d.names i
+entry_in d (Ok is) i = entry_of d.files.names i
 entry_in d (Err c) i = Err c
 
 abbrev pub entry_at : Disk → ℕ → ℕ → Result DirEntry ErrorCode
@@ -69,7 +70,7 @@ Next names (Some f) = f.number ≡ length names
 Next names None = 8 ≤ length names
 
 abbrev pub with_file : Disk → FileNumber → List ℕ → Disk
-with_file d f name = record { slots = d.slots; names = d.names ++ name ∷ []; contents = slice_set d.contents f.number [] }
+with_file d f name = with_files d (lists.with_file d.files f.number name [])
 
 abbrev pub new_file : Disk → Option FileNumber → List ℕ → DescriptorFlags → ℕ → Outcome Fresh
 new_file d None name flags h = (Err InsufficientSpace, d)
@@ -81,7 +82,7 @@ Ends outcome r d' = ◌≡◌ {A = Outcome Fresh} (r, d') outcome
 
 abbrev pub NewFile : Disk → Option ℕ → List ℕ → DescriptorFlags → Result Fresh ErrorCode → Disk → Type 0
 NewFile d None name flags r d' = Ends (Err InsufficientSpace, d) r d'
-NewFile d (Some h) name flags r d' = (next : Option FileNumber) × Next d.names next × Ends (new_file d next name flags h) r d'
+NewFile d (Some h) name flags r d' = (next : Option FileNumber) × Next d.files.names next × Ends (new_file d next name flags h) r d'
 
 abbrev pub OpenNew : Disk → List ℕ → ℕ → DescriptorFlags → Result Fresh ErrorCode → Disk → Type 0
 OpenNew d name oflags flags r d' = MatchBool (contains oflags creat) (MatchBool (contains oflags directory) (Ends (Err NoEntry, d) r d') (NewFile d (first_free d.slots) name flags r d')) (Ends (Err NoEntry, d) r d')
@@ -91,7 +92,7 @@ OpenFound d (Some f) name oflags flags r d' = Ends (open_existing d f oflags fla
 OpenFound d None name oflags flags r d' = OpenNew d name oflags flags r d'
 
 abbrev pub OpenName : Disk → List ℕ → ℕ → DescriptorFlags → Result Fresh ErrorCode → Disk → Type 0
-OpenName d name oflags flags r d' = (found : Option FileNumber) × Found d.names name found × OpenFound d found name oflags flags r d'
+OpenName d name oflags flags r d' = (found : Option FileNumber) × Found d.files name found × OpenFound d found name oflags flags r d'
 
 abbrev pub OpenIn : Disk → Result (Unit {0}) ErrorCode → List ℕ → ℕ → DescriptorFlags → Result Fresh ErrorCode → Disk → Type 0
 OpenIn d (Ok is) path oflags flags r d' = MatchBool (is_dot path) (Ends (open_directory d oflags flags) r d') (MatchBool (is_name path) (OpenName d path oflags flags r d') (Ends (Err NoEntry, d) r d'))

@@ -55,7 +55,7 @@ append d h bytes = append_to d (file_for d.slots h write) bytes
 abbrev pub stat_node : Disk → NodeOf → DescriptorFlags → Result Stat ErrorCode
 stat_node d Directory flags = Ok (record { filetype = DirectoryType; flags = flags; serial = 0; size = 0 })
 stat_node d (File f) flags =
-    if nat_le (length d.names) f.number then Err BadDescriptor
+    if nat_le (length d.files.names) f.number then Err BadDescriptor
     else Ok (record { filetype = RegularFile; flags = flags; serial = f.number + 1; size = length (content d f) })
 
 abbrev pub stat_of : Disk → Result Opened ErrorCode → Result Stat ErrorCode

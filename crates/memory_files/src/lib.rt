@@ -92,10 +92,7 @@ impl MemoryDisk {
         ensures { (result, disk self.new) ≡ streaming (disk self.old) file.0 offset }
     {
         let (file, flags) = self.handles.file_for(file, DescriptorFlags::READ)?;
-        let handle = self
-            .handles
-            .first_free()
-            .ok_or(ErrorCode::InsufficientSpace)?;
+        let handle = self.handles.free_handle()?;
         let stream = Stream {
             file,
             flags,

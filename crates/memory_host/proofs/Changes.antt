@@ -16,8 +16,8 @@ slot_put s h o l = λ i. record { live = λ x. put_live s.disk.slots h o l x i; 
 pub slot_dropped : (s : State) (h : ℕ) → means (with_disk s (drop_handle s.disk h)) ≡ with_live (means s) h None
 slot_dropped s h = λ i. record { live = λ x. drop_live s.disk.slots h x i; filetype = (means s).filetype; serial = (means s).serial; content = (means s).content; listing = (means s).listing; waiting = (means s).waiting; taken = (means s).taken }
 
-pub bytes_put : (s : State) (f : FileNumber) (bytes : List ℕ) → f.number < length s.disk.contents → means (with_disk s (with_content s.disk f bytes)) ≡ with_bytes (means s) f.number bytes
-bytes_put s f bytes l = λ i. record { live = (means s).live; filetype = (means s).filetype; serial = (means s).serial; content = λ n. set_index s.disk.contents f.number bytes [] n l i; listing = (means s).listing; waiting = (means s).waiting; taken = (means s).taken }
+pub bytes_put : (s : State) (f : FileNumber) (bytes : List ℕ) → f.number < length s.disk.files.contents → means (with_disk s (with_content s.disk f bytes)) ≡ with_bytes (means s) f.number bytes
+bytes_put s f bytes l = λ i. record { live = (means s).live; filetype = (means s).filetype; serial = (means s).serial; content = λ n. set_index s.disk.files.contents f.number bytes [] n l i; listing = (means s).listing; waiting = (means s).waiting; taken = (means s).taken }
 
 input_at : (new old : List ℕ) (n : ℕ) → cond (eqb n 9) new [] ≡ cond (eqb n 9) new (cond (eqb n 9) old [])
 input_at new old n = grind (arith, nat_tests)

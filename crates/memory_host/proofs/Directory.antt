@@ -39,7 +39,7 @@ pub count_law : (s : State) (h : ℕ) → EntryCount (means s) h (entry_count s.
 count_law s h = go (directory_at s.disk.slots h) refl
   where
     go : (g : Result (Unit {0}) ErrorCode) → directory_at s.disk.slots h ≡ g → EntryCount (means s) h (count_in s.disk g) (means s)
-    go (Ok u) e = let d = directory_live s.disk.slots h u e in (record { kind = directory; node = 8; flags = d.0 }, (d.1, refl), sym (counted 0 s.disk.names), refl)
+    go (Ok u) e = let d = directory_live s.disk.slots h u e in (record { kind = directory; node = 8; flags = d.0 }, (d.1, refl), sym (counted 0 s.disk.files.names), refl)
     go (Err c) e = refl
 
 -- the entry at an index, and those behind it
@@ -70,21 +70,21 @@ entry_law s h i = (go (directory_at s.disk.slots h) refl, refl)
     R : List Entry → Result DirEntry ErrorCode → Type 0
     R es r = EntryIs es r
 
-    here : i < length s.disk.names → R (drop i (entries 0 s.disk.names)) (Ok (record { filetype = RegularFile; serial = i + 1; name = record { items = get_or s.disk.names i [] } }))
+    here : i < length s.disk.files.names → R (drop i (entries 0 s.disk.files.names)) (Ok (record { filetype = RegularFile; serial = i + 1; name = record { items = get_or s.disk.files.names i [] } }))
     here h =
         let serial : 0 + i + 1 ≡ i + 1 = omega arith in
-        subst (λ es. R es (Ok (record { filetype = RegularFile; serial = i + 1; name = record { items = get_or s.disk.names i [] } })))
-        (sym (entry_here 0 i s.disk.names h ∙ ap (λ n. readable RegularFile (get_or s.disk.names i []) n ∷ drop (suc i) (entries 0 s.disk.names)) serial))
+        subst (λ es. R es (Ok (record { filetype = RegularFile; serial = i + 1; name = record { items = get_or s.disk.files.names i [] } })))
+        (sym (entry_here 0 i s.disk.files.names h ∙ ap (λ n. readable RegularFile (get_or s.disk.files.names i []) n ∷ drop (suc i) (entries 0 s.disk.files.names)) serial))
         (refl, refl, refl)
 
     go : (g : Result (Unit {0}) ErrorCode) → directory_at s.disk.slots h ≡ g → Q (entries_of (means s) (lives s.disk.slots h)) (entry_in s.disk g i)
     go (Ok u) e =
         let d = directory_live s.disk.slots h u e in
-        let all : entries_of (means s) (lives s.disk.slots h) ≡ entries 0 s.disk.names = ap (entries_of (means s)) d.1 in
-        subst (λ es. Q es (entry_of s.disk.names i)) (sym all)
-        (cond_both (ltb i (length s.disk.names)) _ _ (λ r. Q (entries 0 s.disk.names) r)
-        (λ t. here (ltb-true i (length s.disk.names) t))
-        (λ t. subst (λ es. R es (Err NoEntry)) (sym (drop_all i (entries 0 s.disk.names) (omega (arith, counted 0 s.disk.names, ltb-false i (length s.disk.names) t)))) tt))
+        let all : entries_of (means s) (lives s.disk.slots h) ≡ entries 0 s.disk.files.names = ap (entries_of (means s)) d.1 in
+        subst (λ es. Q es (entry_of s.disk.files.names i)) (sym all)
+        (cond_both (ltb i (length s.disk.files.names)) _ _ (λ r. Q (entries 0 s.disk.files.names) r)
+        (λ t. here (ltb-true i (length s.disk.files.names) t))
+        (λ t. subst (λ es. R es (Err NoEntry)) (sym (drop_all i (entries 0 s.disk.files.names) (omega (arith, counted 0 s.disk.files.names, ltb-false i (length s.disk.files.names) t)))) tt))
     go (Err c) e = subst (λ es. Q es (Err c)) (sym (no_entries (means s) (open_at s.disk.slots h) c e)) (subst (λ es. R es (Err c)) (sym (drop_all i [] (omega arith))) tt)
 
 -- one file more
@@ -103,22 +103,22 @@ entries_more node [] name = ap (λ n. readable RegularFile name n ∷ []) (let e
 entries_more node (first ∷ names) name = ap (λ es. readable RegularFile first (node + 1) ∷ es) (entries_more (node + 1) names name ∙ ap (λ n. entries (node + 1) names ++ readable RegularFile name n ∷ []) (let e : node + 1 + length names + 1 ≡ node + suc (length names) + 1 = omega arith in e))
 
 abbrev addition : State → List ℕ → ℕ → Addition
-addition s name f = record { filetype = RegularFile; serial = f + 1; directory = 8; index = length s.disk.names; name = name }
+addition s name f = record { filetype = RegularFile; serial = f + 1; directory = 8; index = length s.disk.files.names; name = name }
 
-added_last : (s : State) (name : List ℕ) (f : ℕ) → f ≡ length s.disk.names → entries 0 (s.disk.names ++ name ∷ []) ≡ listed (addition s name f) (entries 0 s.disk.names)
+added_last : (s : State) (name : List ℕ) (f : ℕ) → f ≡ length s.disk.files.names → entries 0 (s.disk.files.names ++ name ∷ []) ≡ listed (addition s name f) (entries 0 s.disk.files.names)
 added_last s name f e =
-    let es = entries 0 s.disk.names in
-    let l = counted 0 s.disk.names in
-    entries_more 0 s.disk.names name
-    ∙ (λ i. sym (take_all (length s.disk.names) es (omega (arith, l))) i ++ readable RegularFile name ((let n : 0 + length s.disk.names + 1 ≡ f + 1 = omega (arith, e) in n) i) ∷ sym (drop_all (length s.disk.names) es (omega (arith, l))) i)
+    let es = entries 0 s.disk.files.names in
+    let l = counted 0 s.disk.files.names in
+    entries_more 0 s.disk.files.names name
+    ∙ (λ i. sym (take_all (length s.disk.files.names) es (omega (arith, l))) i ++ readable RegularFile name ((let n : 0 + length s.disk.files.names + 1 ≡ f + 1 = omega (arith, e) in n) i) ∷ sym (drop_all (length s.disk.files.names) es (omega (arith, l))) i)
 
-file_added : (s : State) (f : FileNumber) (name : List ℕ) → f.number ≡ length s.disk.names → length s.disk.contents ≡ 8 → means (with_disk s (with_file s.disk f name)) ≡ done (means s) f.number (added (addition s name f.number))
+file_added : (s : State) (f : FileNumber) (name : List ℕ) → f.number ≡ length s.disk.files.names → length s.disk.files.contents ≡ 8 → means (with_disk s (with_file s.disk f name)) ≡ done (means s) f.number (added (addition s name f.number))
 file_added s f name e eight = λ i. record {
   live = (means s).live;
-  filetype = λ k. (ap (λ n. cond (eqb k 8) (Some DirectoryType) (cond (ltb k n) (Some RegularFile) None)) (length-append s.disk.names (name ∷ [])) ∙ type_step (Some DirectoryType) (Some RegularFile) None (length s.disk.names) f.number k e f.small) i;
+  filetype = λ k. (ap (λ n. cond (eqb k 8) (Some DirectoryType) (cond (ltb k n) (Some RegularFile) None)) (length-append s.disk.files.names (name ∷ [])) ∙ type_step (Some DirectoryType) (Some RegularFile) None (length s.disk.files.names) f.number k e f.small) i;
   serial = λ k. serial_step f.number k f.small i;
-  content = λ k. set_index s.disk.contents f.number [] [] k (omega (arith, f.small, eight)) i;
-  listing = λ k. listing_step (eqb k 8) (entries 0 (s.disk.names ++ name ∷ [])) (listed (addition s name f.number) (entries 0 s.disk.names)) (entries 0 s.disk.names) (added_last s name f.number e) i;
+  content = λ k. set_index s.disk.files.contents f.number [] [] k (omega (arith, f.small, eight)) i;
+  listing = λ k. listing_step (eqb k 8) (entries 0 (s.disk.files.names ++ name ∷ [])) (listed (addition s name f.number) (entries 0 s.disk.files.names)) (entries 0 s.disk.files.names) (added_last s name f.number e) i;
   waiting = (means s).waiting;
   taken = (means s).taken;
 }
@@ -131,7 +131,7 @@ split : (b : Bool) {A B Z : Type 0} → MatchBool b A B → (b ≡ true → A �
 split true w f g = f refl w
 split false w f g = g refl w
 
-module _ (s : State) (h oflags : ℕ) (flags : DescriptorFlags) (eight : length s.disk.contents ≡ 8) (d : DescriptorFlags) (dir : lives s.disk.slots h ≡ standing directory 8 d) where
+module _ (s : State) (h oflags : ℕ) (flags : DescriptorFlags) (eight : length s.disk.files.contents ≡ 8) (d : DescriptorFlags) (dir : lives s.disk.slots h ≡ standing directory 8 d) where
   abbrev P : Outcome Fresh → Type 0
   P out = laws.OpenAt (means s) h oflags out.0 (means (with_disk s out.1))
 
@@ -160,7 +160,7 @@ module _ (s : State) (h oflags : ℕ) (flags : DescriptorFlags) (eight : length 
   opened_file f = record { kind = file; node = f.number; flags = flags }
 
   -- a file that is there is opened, emptied or not
-  given_file : (f : FileNumber) (x : ℕ) → f.number < length s.disk.names → first_free s.disk.slots ≡ Some x → P (give_file s.disk f oflags flags (Some x))
+  given_file : (f : FileNumber) (x : ℕ) → f.number < length s.disk.files.names → first_free s.disk.slots ≡ Some x → P (give_file s.disk f oflags flags (Some x))
   given_file f x below e =
       let l = free_live s.disk.slots x e in
       cond_both (contains oflags trunc) (with_content s.disk f []) s.disk (λ d'. P (give d' (node_of (File f) flags) (fresh FileNode) (Some x)))
@@ -173,7 +173,7 @@ module _ (s : State) (h oflags : ℕ) (flags : DescriptorFlags) (eight : length 
           filetype = RegularFile;
           allowed = t;
           new = l.1;
-          typed = type_there s.disk.names f.number f.small below;
+          typed = type_there s.disk.files.names f.number f.small below;
           kind = (refl, refl);
           after = slot_put (with_disk s (with_content s.disk f [])) x (node_of (File f) flags) l.0 ∙ ap (λ m. with_live m x (Some (opened_file f))) (bytes_put s f [] (omega (arith, f.small, eight)));
         },
@@ -187,20 +187,20 @@ module _ (s : State) (h oflags : ℕ) (flags : DescriptorFlags) (eight : length 
           filetype = RegularFile;
           allowed = tt;
           new = l.1;
-          typed = type_there s.disk.names f.number f.small below;
+          typed = type_there s.disk.files.names f.number f.small below;
           kind = (refl, refl);
           after = slot_put s x (node_of (File f) flags) l.0;
         },
       ))
 
-  existing_case : (f : FileNumber) → f.number < length s.disk.names → P (open_existing s.disk f oflags flags)
+  existing_case : (f : FileNumber) → f.number < length s.disk.files.names → P (open_existing s.disk f oflags flags)
   existing_case f below = cond_both (contains oflags creat && contains oflags excl) _ _ P (λ t. refl) (λ t. cond_both (contains oflags directory_bit) _ _ P (λ u. refl) (λ u. by_free (first_free s.disk.slots) refl))
     where
       by_free : (q : Option ℕ) → first_free s.disk.slots ≡ q → P (give_file s.disk f oflags flags q)
       by_free None e = refl
       by_free (Some x) e = given_file f x below e
 
-  new_case : (name : List ℕ) (f : FileNumber) (x : ℕ) → contains oflags creat ≡ true → f.number ≡ length s.disk.names → first_free s.disk.slots ≡ Some x → P (new_file s.disk (Some f) name flags x)
+  new_case : (name : List ℕ) (f : FileNumber) (x : ℕ) → contains oflags creat ≡ true → f.number ≡ length s.disk.files.names → first_free s.disk.slots ≡ Some x → P (new_file s.disk (Some f) name flags x)
   new_case name f x t n e =
       let l = free_live s.disk.slots x e in (
         record { kind = directory; node = 8; flags = d },
@@ -209,7 +209,7 @@ module _ (s : State) (h oflags : ℕ) (flags : DescriptorFlags) (eight : length 
           effect = added (addition s name f.number);
           opened = opened_file f;
           filetype = RegularFile;
-          allowed = (t, type_missing s.disk.names f.number f.small n, refl, refl, omega (arith, counted 0 s.disk.names));
+          allowed = (t, type_missing s.disk.files.names f.number f.small n, refl, refl, omega (arith, counted 0 s.disk.files.names));
           new = l.1;
           typed = cond-true (eqb f.number f.number) _ _ (eq-eqb f.number f.number refl);
           kind = (refl, refl);
@@ -228,13 +228,13 @@ module _ (s : State) (h oflags : ℕ) (flags : DescriptorFlags) (eight : length 
     new_law name t None e o = ends _ refl o
     new_law name t (Some x) e o = by_next o.0 o.1 o.2
       where
-        by_next : (next : Option FileNumber) → Next s.disk.names next → Ends (new_file s.disk next name flags x) r d' → Kept
+        by_next : (next : Option FileNumber) → Next s.disk.files.names next → Ends (new_file s.disk next name flags x) r d' → Kept
         by_next None n u = ends _ refl u
         by_next (Some f) n u = ends _ (new_case name f x t n e) u
 
-    found_law : (name : List ℕ) (q : Option FileNumber) → Found s.disk.names name q → OpenFound s.disk q name oflags flags r d' → Kept
+    found_law : (name : List ℕ) (q : Option FileNumber) → Found s.disk.files name q → OpenFound s.disk q name oflags flags r d' → Kept
     found_law name (Some f) i o =
-        let there = position-Some (λ (other : List ℕ). bytes_eq other name) s.disk.names f.number [] (position_from-zero (λ (other : List ℕ). bytes_eq other name) s.disk.names ∙ i) in
+        let there = position-Some (λ (other : List ℕ). bytes_eq other name) s.disk.files.names f.number [] (position_from-zero (λ (other : List ℕ). bytes_eq other name) s.disk.files.names ∙ i) in
         ends _ (existing_case f there.0) o
     found_law name None i o = split (contains oflags creat) o
         (λ t w. split (contains oflags directory_bit) w (λ u v. ends _ refl v) (λ u v. new_law name t (first_free s.disk.slots) refl v))
@@ -245,7 +245,7 @@ module _ (s : State) (h oflags : ℕ) (flags : DescriptorFlags) (eight : length 
         (λ t v. ends _ directory_case v)
         (λ t w. split (is_name path) w (λ u v. found_law path v.0 v.1 v.2) (λ u v. ends _ refl v))
 
-pub open_law : (s : State) (h oflags : ℕ) (path : List ℕ) (flags : DescriptorFlags) (r : Result Fresh ErrorCode) (d' : Disk) → length s.disk.contents ≡ 8 → OpenAt s.disk h path oflags flags r d' → laws.OpenAt (means s) h oflags r (means (with_disk s d'))
+pub open_law : (s : State) (h oflags : ℕ) (path : List ℕ) (flags : DescriptorFlags) (r : Result Fresh ErrorCode) (d' : Disk) → length s.disk.files.contents ≡ 8 → OpenAt s.disk h path oflags flags r d' → laws.OpenAt (means s) h oflags r (means (with_disk s d'))
 open_law s h oflags path flags r d' eight o = go (directory_at s.disk.slots h) refl o
   where
     go : (g : Result (Unit {0}) ErrorCode) → directory_at s.disk.slots h ≡ g → OpenIn s.disk g path oflags flags r d' → laws.OpenAt (means s) h oflags r (means (with_disk s d'))

@@ -11,7 +11,7 @@ use Rattle.host.specs.declared.token.NodeKind.TheVariants.{File as FileNode, Dir
 use Rattle.host.specs.Meaning.{Live, file, directory, with_content as with_bytes}
 use Rattle.host.specs.Laws.{ReadAt, WriteAt, Append, StatOf, Node, written}
 use Rattle.storage.specs.Held.{too_large}
-use Rattle.files.specs.Lists.{content_of}
+use Rattle.storage.specs.File.{content_of}
 use Rattle.handles.specs.declared.file_number.FileNumber.{FileNumber}
 use Rattle.handles.specs.declared.open.Opened.{Opened}
 use Rattle.handles.specs.declared.open.Node.{Node as NodeOf}
@@ -26,7 +26,7 @@ use Rattle.memory_host.proofs.Slots.{for_live, opened_live}
 use Rattle.memory_host.proofs.Changes.{bytes_put}
 
 -- there is room for the bytes of eight files
-pub all_eight : (m : MemoryHost) → length (state m).disk.contents ≡ 8
+pub all_eight : (m : MemoryHost) → length (state m).disk.files.contents ≡ 8
 all_eight m = length-map m.disk.files.files content_of ∙ m.disk.files.eight
 
 -- bytes written at the end are appended
@@ -44,7 +44,7 @@ read_law s h p buffer = go (file_for s.disk.slots h read) refl
     go (Ok f) e = (live_file f, (for_live s.disk.slots h read f e, refl), (le_refl _, λ more. more), refl, refl)
     go (Err c) e = (refl, refl)
 
-module _ (s : State) (h : ℕ) (bytes : List ℕ) (eight : length s.disk.contents ≡ 8) where
+module _ (s : State) (h : ℕ) (bytes : List ℕ) (eight : length s.disk.files.contents ≡ 8) where
   pub write_law : (p : ℕ) → WriteAt (means s) h p bytes (write_at s.disk h p bytes).0 (means (with_disk s (write_at s.disk h p bytes).1))
   write_law p = go (file_for s.disk.slots h write) refl
     where
@@ -78,16 +78,16 @@ stands : (s : State) (h : ℕ) (node : NodeOf) (flags : DescriptorFlags) → liv
 stands s h Directory flags e = (DirectoryNode, (e, refl))
 stands s h (File f) flags e = (FileNode, (e, refl))
 
-pub stat_law : (s : State) (h : ℕ) → length s.disk.contents ≡ 8 → StatOf (means s) h (stat s.disk h) (means s)
+pub stat_law : (s : State) (h : ℕ) → length s.disk.files.contents ≡ 8 → StatOf (means s) h (stat s.disk h) (means s)
 stat_law s h eight = go (opened_at s.disk.slots h) refl
   where
     P : Result Stat ErrorCode → Type 0
     P r = StatOf (means s) h r (means s)
 
     by_node : (node : NodeOf) (flags : DescriptorFlags) → lives s.disk.slots h ≡ standing (node_kind node) (node_number node) flags → P (stat_node s.disk node flags)
-    by_node Directory flags e = (record { kind = directory; node = 8; flags = flags }, stands s h Directory flags e, (refl, refl, refl, sym (ap length (get_or_past s.disk.contents 8 [] (omega (arith, eight))))), refl)
-    by_node (File f) flags e = cond_both (leb (length s.disk.names) f.number) _ _ P (λ t. refl) (λ t.
-        (record { kind = file; node = f.number; flags = flags }, stands s h (File f) flags e, (type_there s.disk.names f.number f.small (leb-false (length s.disk.names) f.number t), refl, serial_there f.number f.small, refl), refl))
+    by_node Directory flags e = (record { kind = directory; node = 8; flags = flags }, stands s h Directory flags e, (refl, refl, refl, sym (ap length (get_or_past s.disk.files.contents 8 [] (omega (arith, eight))))), refl)
+    by_node (File f) flags e = cond_both (leb (length s.disk.files.names) f.number) _ _ P (λ t. refl) (λ t.
+        (record { kind = file; node = f.number; flags = flags }, stands s h (File f) flags e, (type_there s.disk.files.names f.number f.small (leb-false (length s.disk.files.names) f.number t), refl, serial_there f.number f.small, refl), refl))
 
     go : (g : Result Opened ErrorCode) → opened_at s.disk.slots h ≡ g → P (stat_of s.disk g)
     go (Ok opened) e = by_node opened.node opened.flags (opened_live s.disk.slots h opened e)

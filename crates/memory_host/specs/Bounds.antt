@@ -5,7 +5,8 @@ use Rattle.std.proofs.lemmas.List.{length-map, length-take}
 use Rattle.std.proofs.lemmas.Bool.{cond_both}
 use Rattle.host.specs.Meaning.{Bounded, Named}
 use Rattle.storage.specs.declared.file.File.{File}
-use Rattle.files.specs.Lists.{name_of, content_of, names}
+use Rattle.storage.specs.File.{name_of, content_of}
+use Rattle.files.specs.Lists.{listing}
 use Rattle.memory_host.specs.declared.in_memory.MemoryHost.{MemoryHost}
 use Rattle.memory_host.specs.State.{meaning_of, entries}
 
@@ -26,8 +27,8 @@ named node (suc count) (f ∷ files) = (omega (arith, f.short), named (node + 1)
 pub bounds : (m : MemoryHost) → Bounded (meaning_of m)
 bounds m = record {
   files = λ node. omega (arith, sized m.disk.files.files node);
-  listings = λ node. cond_both (node == 8) (entries 0 (names m.disk.files)) [] (λ es. length es ≤ 65536)
-      (λ e. omega (arith, counted 0 (names m.disk.files), length-map (take m.disk.files.count m.disk.files.files) name_of, length-take m.disk.files.count m.disk.files.files, m.disk.files.few))
+  listings = λ node. cond_both (node == 8) (entries 0 (listing m.disk.files).names) [] (λ es. length es ≤ 65536)
+      (λ e. omega (arith, counted 0 (listing m.disk.files).names, length-map (take m.disk.files.count m.disk.files.files) name_of, length-take m.disk.files.count m.disk.files.files, m.disk.files.few))
       (λ e. omega arith);
-  names = λ node. cond_both (node == 8) (entries 0 (names m.disk.files)) [] Named (λ e. named 0 m.disk.files.count m.disk.files.files) (λ e. tt);
+  names = λ node. cond_both (node == 8) (entries 0 (listing m.disk.files).names) [] Named (λ e. named 0 m.disk.files.count m.disk.files.files) (λ e. tt);
 }

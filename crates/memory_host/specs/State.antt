@@ -41,10 +41,10 @@ entries node (name ∷ names) = readable RegularFile name (node + 1) ∷ entries
 abbrev pub means : State → Meaning
 means s = record {
   live = lives s.disk.slots;
-  filetype = type_of s.disk.names;
+  filetype = type_of s.disk.files.names;
   serial = serial_of;
-  content = λ node. slice_index_or s.disk.contents node [];
-  listing = λ node. if node == directory_node then entries 0 s.disk.names else [];
+  content = λ node. slice_index_or s.disk.files.contents node [];
+  listing = λ node. if node == directory_node then entries 0 s.disk.files.names else [];
   waiting = λ node. if node == stdin_node then s.input else [];
   taken = λ node. if node == stdout_node then s.stdout else if node == stderr_node then s.stderr else [];
 }

@@ -2,7 +2,7 @@
 #![tactic(auto)]
 
 ghost use Rattle.fuel.specs.Charges.{Is};
-ghost use Rattle.records.specs.Layout.{bytes_of};
+ghost use Rattle.memory.specs.Ranges.{bytes_of};
 ghost use Rattle.path.specs.Paths.{ReadString, found};
 
 use errno::Error;

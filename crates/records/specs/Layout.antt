@@ -1,6 +1,5 @@
 -- How numbers and records lie in a guest's memory, by witx.
 use Rattle.std.specs.Prelude.{◌≡◌, ℕ, zero, suc, ◌+◌, ◌*◌, ◌/◌, ◌%◌, if◌then◌else◌, List, [], ◌∷◌, ◌++◌, Ok, Err, Result, ◌==◌}
-use Rattle.std.specs.Borrow.{Bor}
 use Rattle.types.specs.Numbers.{filetype_number, filetype_of}
 use Rattle.memory.specs.Ranges.{bytes_at, in_memory, with_bytes}
 use Rattle.memory.specs.declared.GuestError.{GuestError}
@@ -44,11 +43,6 @@ placed size align memory ptr x =
 
 abbrev pub read_at : {X : Type 0} → ℕ → ℕ → (List ℕ → X) → List ℕ → ℕ → Result X GuestError
 read_at size align parsed memory ptr = placed size align memory ptr (parsed (bytes_at memory ptr size))
-
--- an answer with the bytes themselves in place of a reference to them
-abbrev pub bytes_of : {E : Type 0} → Result (Bor (List ℕ)) E → Result (List ℕ) E
-bytes_of (Ok bytes) = Ok bytes.now
-bytes_of (Err e) = Err e
 
 -- a refused write changes nothing
 abbrev pub Leaves : Result (Unit {0}) GuestError → List ℕ → List ℕ → List ℕ → Type 0

@@ -3,8 +3,8 @@
 
 ghost use Rattle.std.specs.Prelude.{◌≡◌, ℕ, ◌+◌, ◌≤◌, List, length, IfOk};
 ghost use Rattle.memory.specs.declared.Region.{Region as RegionOf};
-ghost use Rattle.memory.specs.Ranges.{bytes_at};
-ghost use Rattle.records.specs.Layout.{bytes_of, placed, read_at, WriteAt};
+ghost use Rattle.memory.specs.Ranges.{bytes_at, bytes_of};
+ghost use Rattle.records.specs.Layout.{placed, read_at, WriteAt};
 
 use memory::{GuestError, Region};
 
@@ -67,10 +67,13 @@ impl Layout {
         if !ptr.is_multiple_of(self.align as u64) {
             return Err(GuestError::PtrNotAligned);
         }
-        match ptr.checked_add(self.size as u64) {
-            Some(end) if end <= memory.len() as u64 => Ok(ptr as usize),
-            _ => Err(GuestError::PtrOutOfBounds),
+        let end = ptr
+            .checked_add(self.size as u64)
+            .ok_or(GuestError::PtrOutOfBounds)?;
+        if end > memory.len() as u64 {
+            return Err(GuestError::PtrOutOfBounds);
         }
+        Ok(ptr as usize)
     }
 
     fn load(self, memory: &[u8], ptr: u64) -> Result<&[u8], GuestError>

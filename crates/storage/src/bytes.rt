@@ -35,6 +35,7 @@ pub(crate) fn write_at<const CAP: usize>(
     }
     let start = offset as usize;
     let end = start + source.len();
+    // The zeros that are written over do no harm, and make one part of the rest.
     pad(bytes, end);
     bytes.as_mut_slice()[start..end].copy_from_slice(source);
     Ok(())

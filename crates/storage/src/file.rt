@@ -1,10 +1,11 @@
 // A file: a name, and the bytes that it holds.
-ghost use Rattle.std.specs.Prelude.{◌≡◌, ◌≤◌, ◌↔◌, [], length, false, IsOk, IfOk, OnOk, OnErr};
+ghost use Rattle.std.specs.Prelude.{⊤, ◌≡◌, ◌≤◌, ◌↔◌, [], length, false, IsOk, IfOk, OnOk, OnErr};
 ghost use Rattle.host.specs.Laws.{written};
 ghost use Rattle.storage.specs.Held.{too_large};
 
 use crate::bytes::write_at;
 use arrayvec::{ArrayVec, CapacityError};
+use std::alloc::AllocError;
 
 // The ghost fields say of a file what an `ArrayVec` knows of itself, where a law speaks of files.
 #[derive(Debug, PartialEq, Eq, Drop)]
@@ -13,6 +14,19 @@ pub struct File {
     pub content: ArrayVec<u8, 2048>,
     ghost short: { length name.items ≤ 32 },
     ghost small: { length content.items ≤ 2048 },
+}
+
+impl Clone for File {
+    ghost is_clone = { λ a b. (b.name.items ≡ a.name.items) × (b.content.items ≡ a.content.items) };
+
+    ghost is_infallible = { λ _. ⊤ };
+
+    fn clone(&self) -> Result<File, AllocError> {
+        Ok(File {
+            name: self.name.clone()?,
+            content: self.content.clone()?,
+        })
+    }
 }
 
 // A file without a name and without bytes.

@@ -1,11 +1,25 @@
 // What an output has taken.
-ghost use Rattle.std.specs.Prelude.{◌≡◌, ◌+◌, ◌≤◌, ◌↔◌, [], ◌++◌, length, IsOk, OnOk, OnErr};
+ghost use Rattle.std.specs.Prelude.{⊤, ◌≡◌, ◌+◌, ◌≤◌, ◌↔◌, [], ◌++◌, length, IsOk, OnOk, OnErr};
 
 use arrayvec::{ArrayVec, CapacityError};
+use std::alloc::AllocError;
 
-#[derive(Clone, Debug, Default, PartialEq, Eq, Drop)]
+#[derive(Debug, PartialEq, Eq, Drop)]
 pub struct Output {
     pub taken: ArrayVec<u8, 8192>,
+    ghost fits: { length taken.items ≤ 8192 },
+}
+
+impl Clone for Output {
+    ghost is_clone = { λ a b. b.taken.items ≡ a.taken.items };
+
+    ghost is_infallible = { λ _. ⊤ };
+
+    fn clone(&self) -> Result<Output, AllocError> {
+        Ok(Output {
+            taken: self.taken.clone()?,
+        })
+    }
 }
 
 impl Output {

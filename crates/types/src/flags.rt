@@ -5,6 +5,7 @@ ghost use Rattle.types.specs.Words.{Taken, contains as contains_all};
 use errno::Errno;
 use std::ops::BitOr;
 
+// Flags as one number, of which each bit stands for itself.
 pub trait Flags: Copy {
     ghost bits: { Self → ℕ };
 
@@ -20,7 +21,7 @@ pub trait Flags: Copy {
 }
 
 // A guest's word, of which none but the lowest `NAMED` bits may be set.
-fn named<const NAMED: u32>(word: u64) -> Result<u64, Errno>
+fn known_bits<const NAMED: u32>(word: u64) -> Result<u64, Errno>
     requires { NAMED < 64 }
     ensures { Taken (λ bits. bits) (2 ^ NAMED) word result }
 {
@@ -52,7 +53,7 @@ impl TryFrom<u32> for Fdflags {
     ghost try_from_gives = { λ word r. Taken (λ flags. flags.0) (2 ^ 5) word r };
 
     fn try_from(word: u32) -> Result<Fdflags, Errno> {
-        Ok(Fdflags(named::<5>(word as u64)? as u16))
+        Ok(Fdflags(known_bits::<5>(word as u64)? as u16))
     }
 }
 
@@ -84,7 +85,7 @@ impl TryFrom<u32> for Oflags {
     ghost try_from_gives = { λ word r. Taken (λ flags. flags.0) (2 ^ 4) word r };
 
     fn try_from(word: u32) -> Result<Oflags, Errno> {
-        Ok(Oflags(named::<4>(word as u64)? as u16))
+        Ok(Oflags(known_bits::<4>(word as u64)? as u16))
     }
 }
 
@@ -102,7 +103,7 @@ impl TryFrom<u32> for Lookupflags {
     ghost try_from_gives = { λ word r. Taken (λ flags. flags.0) (2 ^ 1) word r };
 
     fn try_from(word: u32) -> Result<Lookupflags, Errno> {
-        Ok(Lookupflags(named::<1>(word as u64)? as u32))
+        Ok(Lookupflags(known_bits::<1>(word as u64)? as u32))
     }
 }
 
@@ -212,6 +213,6 @@ impl TryFrom<u64> for Rights {
     ghost try_from_gives = { λ word r. Taken (λ rights. rights.0) (2 ^ 30) word r };
 
     fn try_from(word: u64) -> Result<Rights, Errno> {
-        Ok(Rights(named::<30>(word)?))
+        Ok(Rights(known_bits::<30>(word)?))
     }
 }

@@ -13,6 +13,6 @@ pub use whence::Whence;
 #[derive(Clone, Copy, Debug, PartialEq, Eq)]
 pub struct Fd(pub u32);
 
-// A host's name for something that it holds open. No guest ever sees one.
+// A host's name for something that it holds open. No guest ever sees one. The default fills unused places and names nothing.
 #[derive(Clone, Copy, Debug, Default, PartialEq, Eq)]
 pub struct Handle(pub u32);

@@ -5,6 +5,7 @@ use Rattle.utf8.specs.Machine.{accepts}
 use Rattle.utf8.proofs.Rules.{decided}
 use Rattle.utf8.proofs.scan.Goals as goal
 
+-- the lemma takes what the loop has gone through, put together from several facts
 pub returns-in_err-state : goal.returns-in_err-state
 returns-in_err-state c =
     let bs = c.args.bytes.now in

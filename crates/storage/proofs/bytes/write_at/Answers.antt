@@ -7,6 +7,7 @@ use Rattle.arrayvec.proofs.ArrayVecLemmas.{items-with_items}
 use Rattle.storage.proofs.Fronts.{put_over}
 use Rattle.storage.proofs.bytes.write_at.Goals as goal
 
+-- two lemmas, of which the second takes what the first gives
 pub returns-clause-ok : goal.returns-clause-ok
 returns-clause-ok g c =
     let old = c.args.bytes.now.items in

@@ -5,6 +5,7 @@ use Rattle.handles.specs.Slots.{is_free}
 use Rattle.handles.proofs.First.{Passes, Fails, index_is}
 use Rattle.handles.proofs.handles.Handles.first_free.Goals as goal
 
+-- the lemma on searches takes the closure's meaning, which the tactics do not make up
 pub returns-in_err-index : goal.returns-in_err-index
 returns-in_err-index c =
     let slots = c.args.self.now in
