@@ -80,6 +80,7 @@ impl FileHost for Grudging {
     }
 }
 
+// The two kinds of flags of an opening come apart, as the trait has them.
 impl DirHost for Grudging {
     fn open_at(
         &mut self,

@@ -1,4 +1,4 @@
-// What is asked of a directory in disk: its entries, and the opening of paths.
+// What is asked of a directory in memory: its entries, and the opening of paths.
 #![tactic(auto)]
 
 ghost use Rattle.std.specs.Prelude.{◌≡◌, true, Ok, Some};

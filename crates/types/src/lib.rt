@@ -13,6 +13,7 @@ pub use whence::Whence;
 #[derive(Clone, Copy, Debug, PartialEq, Eq)]
 pub struct Fd(pub u32);
 
-// A host's name for something that it holds open. No guest ever sees one. The default fills unused places and names nothing.
+// A host's name for something that it holds open. No guest ever sees one. The default only fills unused
+// places, and is no handle to be used.
 #[derive(Clone, Copy, Debug, Default, PartialEq, Eq)]
 pub struct Handle(pub u32);

@@ -6,7 +6,7 @@ use memory_dir::OpenOptions;
 use types::{DescriptorFlags, Handle, Lookupflags, Oflags};
 
 impl<'a> DirHost for MemoryHost<'a> {
-    // There are no links to follow.
+    // There are no links to follow. The two kinds of flags come apart, as the trait has them.
     #[tactic(auto, using(crate::proofs::Kept::open_kept))]
     fn open_at(
         &mut self,

@@ -1,4 +1,5 @@
-// The memory host's files and streams. What it answers is pinned by the functions that it calls, and by what is said here.
+// The memory host's files and streams. The laws are proved of each method; what it answers within them is pinned by the
+// functions that it calls.
 ghost use Rattle.memory_host.specs.Bounds.{bounds};
 ghost use Rattle.memory_host.specs.State.{meaning_of};
 
