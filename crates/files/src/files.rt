@@ -24,6 +24,7 @@ impl Files {
     ghost use Rattle.storage.specs.File.{name_of};
     ghost use Rattle.files.specs.Lists.{listing, blank, content_at, with_content, Found, Created, put_new, put_file, file_in};
 
+    #[tactic(auto, using(crate::proofs::Maps::all_empty))]
     pub fn new() -> Files
         ensures { listing result ≡ blank }
     {

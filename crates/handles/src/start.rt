@@ -23,6 +23,7 @@ impl Handles {
             flags: DescriptorFlags::READ | DescriptorFlags::WRITE,
         };
         self.slots[3] = Open::Node(root);
+        // A host with terminals has the like: a constructor for both would say no more than this literal.
         let no_terminal = |handle: u32| StandardStream {
             handle: Handle(handle),
             terminal: false,

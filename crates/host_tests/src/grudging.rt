@@ -104,6 +104,7 @@ impl DirHost for Grudging {
 
     fn start(&mut self) -> Start {
         self.live = [true, true, true];
+        // A host without terminals has the like: a constructor for both would say no more than this literal.
         let terminal = |handle: u32| StandardStream {
             handle: Handle(handle),
             terminal: true,
