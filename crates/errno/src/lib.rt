@@ -1,9 +1,10 @@
 // How calls fail: an errno that the guest is told, or a trap that stops it; and the codes with which a host refuses.
 #![tactic(auto)]
 
-ghost use Rattle.std.specs.Prelude.{◌≡◌};
+ghost use Rattle.std.specs.Prelude.{◌≡◌, Some};
 ghost use Rattle.errno.specs.Numbers.{errno_number, errno_of};
 ghost use Rattle.errno.specs.declared.Error.TheVariants.{Errno as ToldErrno};
+ghost use Rattle.errno.specs.Texts.{errno_text, cause_text, error_text};
 
 use std::fmt;
 
@@ -112,12 +113,16 @@ impl From<ErrorCode> for Error {
 }
 
 impl fmt::Display for Errno {
+    ghost output = { λ told. Some (errno_text told) };
+
     fn fmt<W: fmt::Write>(&self, f: &mut fmt::Formatter<W>) -> fmt::Result {
         write!(f, "errno {}", u16::from(*self))
     }
 }
 
 impl fmt::Display for TrapCause {
+    ghost output = { λ cause. Some (cause_text cause) };
+
     fn fmt<W: fmt::Write>(&self, f: &mut fmt::Formatter<W>) -> fmt::Result {
         f.write_str(match self {
             TrapCause::Pointer => "trap pointer",
@@ -129,6 +134,8 @@ impl fmt::Display for TrapCause {
 impl std::error::Error for Error {}
 
 impl fmt::Display for Error {
+    ghost output = { λ error. Some (error_text error) };
+
     fn fmt<W: fmt::Write>(&self, f: &mut fmt::Formatter<W>) -> fmt::Result {
         match self {
             Error::Errno(told) => write!(f, "{told}"),
