@@ -75,7 +75,7 @@ impl Flags for Oflags {
     ghost bits = { λ flags. flags.0 };
 
     fn bits(self) -> u64 {
-        self.0 as u64
+        u64::from(self.0)
     }
 }
 
