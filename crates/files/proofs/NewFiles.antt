@@ -5,7 +5,7 @@ use Rattle.std.proofs.lemmas.Bool.Decides.{nat_tests}
 use Rattle.std.proofs.lemmas.List.{get_or-set_same, get_or_past, set-set, length-set, same_lists, places}
 use Rattle.std.proofs.lemmas.Bool.{cases_lt}
 use Rattle.errno.specs.declared.ErrorCode.{ErrorCode}
-use Rattle.arrayvec.specs.declared.errors.CapacityError.{CapacityError}
+use Rattle.fixed_vec.specs.declared.CapacityError.{CapacityError}
 use Rattle.host.specs.Laws.{written}
 use Rattle.storage.specs.Held.{too_large}
 use Rattle.files.specs.Lists.{Listing, content_at, with_content, with_file}
@@ -29,7 +29,7 @@ filed l middle after f n name bytes em ea en =
     ∙ ap (λ k. with_file l k name bytes) en
 
 -- a write of no more than a file holds is accepted
-pub wrote_all : {A : Type 0} (wrote : Result (Unit {0}) (CapacityError (Unit {0}))) (told : Result (Unit {0}) ErrorCode) (bytes : List ℕ) → length bytes ≤ 2048 → (IsOk wrote ↔ (too_large 2048 0 bytes ≡ false)) → OnOk wrote A → is_ok told ≡ is_ok wrote → (told ≡ Ok tt) × A
+pub wrote_all : {A : Type 0} (wrote : Result (Unit {0}) (CapacityError)) (told : Result (Unit {0}) ErrorCode) (bytes : List ℕ) → length bytes ≤ 2048 → (IsOk wrote ↔ (too_large 2048 0 bytes ≡ false)) → OnOk wrote A → is_ok told ≡ is_ok wrote → (told ≡ Ok tt) × A
 wrote_all (Ok u) (Ok v) bytes h fits ok same = (refl, ok)
 wrote_all (Ok u) (Err e) bytes h fits ok same = cc
 wrote_all (Err e) told bytes h fits ok same = let no = fits.1 (fitting bytes h) in cc

@@ -5,8 +5,8 @@ ghost use Rattle.host.specs.Laws.{written};
 ghost use Rattle.handles.specs.Names.{is_name};
 ghost use Rattle.storage.specs.Held.{too_large};
 
-use arrayvec::CapacityError;
 use errno::ErrorCode;
+use fixed_vec::CapacityError;
 use handles::{FileNumber, is_name};
 use storage::File;
 

@@ -5,7 +5,7 @@ ghost use Rattle.handles.specs.Starts.{started, Gives};
 
 use crate::handles::Handles;
 use crate::open::{Node, Open, Opened};
-use arrayvec::ArrayVec;
+use fixed_vec::FixedVec;
 use host::{Name, Preopen, StandardStream, Start};
 use types::{DescriptorFlags, Handle};
 
@@ -28,16 +28,15 @@ impl Handles {
             handle: Handle(handle),
             terminal: false,
         };
-        let mut preopens = ArrayVec::new();
-        preopens.push(Preopen {
+        let preopen = Preopen {
             handle: Handle(3),
             name: root_name(),
-        });
+        };
         Start {
             stdin: no_terminal(0),
             stdout: no_terminal(1),
             stderr: no_terminal(2),
-            preopens,
+            preopens: FixedVec::try_from([preopen].as_slice()).unwrap(),
         }
     }
 }
@@ -45,7 +44,5 @@ impl Handles {
 fn root_name() -> Name
     ensures { result.items ≡ slash ∷ [] }
 {
-    let mut name = ArrayVec::new();
-    name.push(b'/');
-    name
+    Name::try_from(b"/".as_slice()).unwrap()
 }

@@ -2,12 +2,12 @@
 ghost use Rattle.std.specs.Prelude.{◌≡◌};
 ghost use Rattle.host.specs.declared.answers.StreamError.TheVariants.{LastOperationFailed};
 
-use arrayvec::ArrayVec;
 use errno::ErrorCode;
+use fixed_vec::FixedVec;
 use types::{DescriptorFlags, Filetype, Handle};
 
 // A name of at most 255 bytes.
-pub type Name = ArrayVec<u8, 255>;
+pub type Name = FixedVec<u8, 255>;
 
 // Why a stream brings nothing: it has ended, or the host refused.
 #[derive(Clone, Copy, Debug, PartialEq, Eq)]
@@ -38,7 +38,7 @@ pub struct Stat {
 pub struct DropFault;
 
 // An entry of a directory, with its name.
-#[derive(Clone, Debug, PartialEq, Eq, Drop)]
+#[derive(Clone, Copy, Debug, PartialEq, Eq)]
 pub struct DirEntry {
     pub filetype: Filetype,
     pub serial: u64,
@@ -53,17 +53,17 @@ pub struct StandardStream {
 }
 
 // A directory that is open from the start, under a name for the guest.
-#[derive(Clone, Debug, Default, PartialEq, Eq, Drop)]
+#[derive(Clone, Copy, Debug, Default, PartialEq, Eq)]
 pub struct Preopen {
     pub handle: Handle,
     pub name: Name,
 }
 
 // What a context begins with.
-#[derive(Clone, Debug, PartialEq, Eq, Drop)]
+#[derive(Clone, Copy, Debug, PartialEq, Eq)]
 pub struct Start {
     pub stdin: StandardStream,
     pub stdout: StandardStream,
     pub stderr: StandardStream,
-    pub preopens: ArrayVec<Preopen, 8>,
+    pub preopens: FixedVec<Preopen, 8>,
 }

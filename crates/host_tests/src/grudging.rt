@@ -2,8 +2,8 @@
 ghost use Rattle.std.specs.Prelude.{◌≡◌};
 ghost use Rattle.host_tests.specs.Grudging.{meaning_of, bounds};
 
-use arrayvec::ArrayVec;
 use errno::ErrorCode;
+use fixed_vec::FixedVec;
 use host::{
     DirEntry, DirHost, DropFault, FileHost, FileStream, Fresh, StandardStream, Start, Stat,
     StreamError,
@@ -113,7 +113,7 @@ impl DirHost for Grudging {
             stdin: terminal(0),
             stdout: terminal(1),
             stderr: terminal(2),
-            preopens: ArrayVec::new(),
+            preopens: FixedVec::new(),
         }
     }
 }

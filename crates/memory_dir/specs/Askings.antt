@@ -1,5 +1,5 @@
 -- What is answered to an asking of the directory, and what there is after it.
-use Rattle.std.specs.Prelude.{◌≡◌, ℕ, ◌+◌, ◌≤◌, if◌then◌else◌, ◌&&◌, ◌||◌, List, [], length, Some, None, Ok, Err, MatchBool, Option, Result, nat_lt, slice_index_or}
+use Rattle.std.specs.Prelude.{◌≡◌, ℕ, ◌+◌, ◌<◌, ◌≤◌, if◌then◌else◌, ◌&&◌, ◌||◌, List, [], length, Some, None, Ok, Err, MatchBool, Option, Result, slice_index_or}
 use Rattle.errno.specs.declared.ErrorCode.{ErrorCode}
 use Rattle.errno.specs.declared.ErrorCode.TheVariants.{Exist, IsDirectory, NoEntry, InsufficientSpace, NotDirectory}
 use Rattle.types.specs.declared.Handle.{Handle}
@@ -30,17 +30,16 @@ count_in d (Err c) = Err c
 abbrev pub entry_count : Disk → ℕ → Result ℕ ErrorCode
 entry_count d h = count_in d (directory_at d.slots h)
 
-abbrev pub entry_of : List (List ℕ) → ℕ → Result DirEntry ErrorCode
-entry_of names i =
-    if nat_lt i (length names) then Ok (record { filetype = RegularFile; serial = i + 1; name = record { items = slice_index_or names i [] } })
-    else Err NoEntry
+abbrev pub EntryOf : List (List ℕ) → ℕ → Result DirEntry ErrorCode → Type 0
+EntryOf names i (Ok e) = (i < length names) × (e.filetype ≡ RegularFile) × (e.serial ≡ i + 1) × (e.name.items ≡ slice_index_or names i [])
+EntryOf names i (Err c) = (length names ≤ i) × (c ≡ NoEntry)
 
-abbrev pub entry_in : Disk → Result (Unit {0}) ErrorCode → ℕ → Result DirEntry ErrorCode
-entry_in d (Ok is) i = entry_of d.files.names i
-entry_in d (Err c) i = Err c
+abbrev pub EntryIn : Disk → Result (Unit {0}) ErrorCode → ℕ → Result DirEntry ErrorCode → Type 0
+EntryIn d (Ok is) i r = EntryOf d.files.names i r
+EntryIn d (Err c) i r = r ≡ Err c
 
-abbrev pub entry_at : Disk → ℕ → ℕ → Result DirEntry ErrorCode
-entry_at d h i = entry_in d (directory_at d.slots h) i
+abbrev pub EntryAt : Disk → ℕ → ℕ → Result DirEntry ErrorCode → Type 0
+EntryAt d h i r = EntryIn d (directory_at d.slots h) i r
 
 abbrev pub node_of : NodeOf → DescriptorFlags → Open
 node_of node flags = Node (record { node = node; flags = flags })

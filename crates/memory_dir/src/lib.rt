@@ -6,7 +6,7 @@ ghost use Rattle.handles.specs.Names.{is_name};
 ghost use Rattle.handles.specs.Lives.{opened_kind};
 ghost use Rattle.memory_files.specs.Disk.{disk as disk_of};
 ghost use Rattle.memory_files.specs.Askings.{give};
-ghost use Rattle.memory_dir.specs.Askings.{entry_count as counting, entry_at as reading, node_of, fresh, open_directory as opening_directory, open_existing as opening_existing, OpenNew, OpenName, OpenAt};
+ghost use Rattle.memory_dir.specs.Askings.{entry_count as counting, EntryAt, node_of, fresh, open_directory as opening_directory, open_existing as opening_existing, OpenNew, OpenName, OpenAt};
 
 use errno::ErrorCode;
 use handles::{FileNumber, Node, Open, Opened, is_dot, is_name};
@@ -30,15 +30,17 @@ pub fn entry_count(disk: &MemoryDisk, directory: Handle) -> Result<u32, ErrorCod
 
 // The files are listed as they were created.
 pub fn entry(disk: &MemoryDisk, directory: Handle, index: u32) -> Result<DirEntry, ErrorCode>
-    ensures { result ≡ reading (disk_of disk.now) directory.0 index }
+    ensures { EntryAt (disk_of disk.now) directory.0 index result }
 {
     disk.handles.directory(directory)?;
     let own = disk.files.name(index as usize).ok_or(ErrorCode::NoEntry)?;
-    Ok(DirEntry {
+    let mut entry = DirEntry {
         filetype: Filetype::RegularFile,
         serial: index as u64 + 1,
-        name: Name::try_from(own).unwrap(),
-    })
+        name: Name::new(),
+    };
+    entry.name.try_extend_from_slice(own).unwrap();
+    Ok(entry)
 }
 
 // Opens the directory itself, a file in it, or a new one.

@@ -3,10 +3,9 @@ use Rattle.std.proofs.Common.{◌≡◌, ℕ, zero, suc, ◌+◌, ◌<◌, Bool,
 use Rattle.std.proofs.lemmas.List.{drop_all, take_all, length-append}
 use Rattle.std.proofs.lemmas.List.Quantifiers.{position-Some}
 use Rattle.std.proofs.lemmas.Iterator.Adapters.{position_from-zero}
-use Rattle.std.proofs.lemmas.Bool.{cond_both, cond-true, cond-false, ltb-true, ltb-false, le-ltb, eq-eqb, ne_eqb}
+use Rattle.std.proofs.lemmas.Bool.{cond_both, cond-true, cond-false, le-ltb, eq-eqb, ne_eqb}
 use Rattle.std.proofs.lemmas.Bool.Decides.{nat_tests}
 use Rattle.errno.specs.declared.ErrorCode.{ErrorCode}
-use Rattle.errno.specs.declared.ErrorCode.TheVariants.{NoEntry}
 use Rattle.types.specs.declared.flags.DescriptorFlags.{DescriptorFlags}
 use Rattle.types.specs.declared.filetype.Filetype.TheVariants.{Directory as DirectoryType, RegularFile}
 use Rattle.types.specs.Words.{contains, creat, directory as directory_bit, excl, trunc}
@@ -14,7 +13,7 @@ use Rattle.host.specs.declared.token.Fresh.{Fresh}
 use Rattle.host.specs.declared.token.NodeKind.TheVariants.{File as FileNode, Directory as DirectoryNode}
 use Rattle.host.specs.declared.answers.DirEntry.{DirEntry}
 use Rattle.host.specs.Meaning.{Live, Meaning, Entry, readable, file, directory, with_live}
-use Rattle.host.specs.Laws.{EntryCount, EntryAt, EntryIs, entries_of, Addition, Effect, nothing, emptied, added, done, Allowed, Opened, listed}
+use Rattle.host.specs.Laws.{EntryCount, EntryIs, entries_of, Addition, Effect, nothing, emptied, added, done, Allowed, Opened, listed}
 use Rattle.host.specs.Laws as laws
 use Rattle.handles.specs.declared.file_number.FileNumber.{FileNumber}
 use Rattle.handles.specs.declared.open.Open.{Open}
@@ -29,7 +28,8 @@ use Rattle.files.specs.Lists.{Found}
 use Rattle.memory_host.specs.State.{State, means, with_disk, entries, type_of}
 use Rattle.memory_files.specs.Disk.{Disk, Outcome, with_content}
 use Rattle.memory_files.specs.Askings.{give}
-use Rattle.memory_dir.specs.Askings.{count_in, entry_count, entry_of, entry_in, entry_at, node_of, fresh, open_directory, give_file, open_existing, Next, with_file, new_file, Ends, NewFile, OpenFound, OpenIn, OpenAt}
+use Rattle.memory_dir.specs.Askings as dir
+use Rattle.memory_dir.specs.Askings.{count_in, entry_count, EntryOf, EntryIn, node_of, fresh, open_directory, give_file, open_existing, Next, with_file, new_file, Ends, NewFile, OpenFound, OpenIn, OpenAt}
 use Rattle.memory_host.proofs.Slots.{set_index, directory_live, free_live}
 use Rattle.memory_host.proofs.Files.{type_there}
 use Rattle.memory_host.proofs.Changes.{slot_put, bytes_put}
@@ -61,31 +61,22 @@ no_entries m Stdin c e = refl
 no_entries m Stdout c e = refl
 no_entries m Stderr c e = refl
 
-pub entry_law : (s : State) (h i : ℕ) → EntryAt (means s) h i (entry_at s.disk h i) (means s)
-entry_law s h i = (go (directory_at s.disk.slots h) refl, refl)
+-- what is told of the files' entries is what the law wants of them
+entry_told : (names : List (List ℕ)) (i : ℕ) (r : Result DirEntry ErrorCode) → EntryOf names i r → EntryIs (drop i (entries 0 names)) r
+entry_told names i (Ok e) told = subst (λ es. EntryIs es (Ok e)) (sym (entry_here 0 i names told.0)) (told.1, told.2 ∙ (let n : i + 1 ≡ 0 + i + 1 = omega arith in n), told.3)
+entry_told names i (Err c) told = subst (λ es. EntryIs es (Err c)) (sym (drop_all i (entries 0 names) (omega (arith, counted 0 names, told.0)))) tt
+
+pub entry_law : (s : State) (h i : ℕ) (r : Result DirEntry ErrorCode) → dir.EntryAt s.disk h i r → laws.EntryAt (means s) h i r (means s)
+entry_law s h i r told = (go (directory_at s.disk.slots h) refl told, refl)
   where
     Q : List Entry → Result DirEntry ErrorCode → Type 0
     Q es r = EntryIs (drop i es) r
 
-    R : List Entry → Result DirEntry ErrorCode → Type 0
-    R es r = EntryIs es r
-
-    here : i < length s.disk.files.names → R (drop i (entries 0 s.disk.files.names)) (Ok (record { filetype = RegularFile; serial = i + 1; name = record { items = get_or s.disk.files.names i [] } }))
-    here h =
-        let serial : 0 + i + 1 ≡ i + 1 = omega arith in
-        subst (λ es. R es (Ok (record { filetype = RegularFile; serial = i + 1; name = record { items = get_or s.disk.files.names i [] } })))
-        (sym (entry_here 0 i s.disk.files.names h ∙ ap (λ n. readable RegularFile (get_or s.disk.files.names i []) n ∷ drop (suc i) (entries 0 s.disk.files.names)) serial))
-        (refl, refl, refl)
-
-    go : (g : Result (Unit {0}) ErrorCode) → directory_at s.disk.slots h ≡ g → Q (entries_of (means s) (lives s.disk.slots h)) (entry_in s.disk g i)
-    go (Ok u) e =
+    go : (g : Result (Unit {0}) ErrorCode) → directory_at s.disk.slots h ≡ g → EntryIn s.disk g i r → Q (entries_of (means s) (lives s.disk.slots h)) r
+    go (Ok u) e w =
         let d = directory_live s.disk.slots h u e in
-        let all : entries_of (means s) (lives s.disk.slots h) ≡ entries 0 s.disk.files.names = ap (entries_of (means s)) d.1 in
-        subst (λ es. Q es (entry_of s.disk.files.names i)) (sym all)
-        (cond_both (ltb i (length s.disk.files.names)) _ _ (λ r. Q (entries 0 s.disk.files.names) r)
-        (λ t. here (ltb-true i (length s.disk.files.names) t))
-        (λ t. subst (λ es. R es (Err NoEntry)) (sym (drop_all i (entries 0 s.disk.files.names) (omega (arith, counted 0 s.disk.files.names, ltb-false i (length s.disk.files.names) t)))) tt))
-    go (Err c) e = subst (λ es. Q es (Err c)) (sym (no_entries (means s) (open_at s.disk.slots h) c e)) (subst (λ es. R es (Err c)) (sym (drop_all i [] (omega arith))) tt)
+        subst (λ es. Q es r) (sym (ap (entries_of (means s)) d.1)) (entry_told s.disk.files.names i r w)
+    go (Err c) e w = subst (λ es. Q es r) (sym (no_entries (means s) (open_at s.disk.slots h) c e)) (subst (λ es. EntryIs es r) (sym (drop_all i [] (omega arith))) (subst (λ out. EntryIs [] out) (sym w) tt))
 
 -- one file more
 type_step : {X : Type 0} (d r n : X) (len f k : ℕ) → f ≡ len → f < 8 → cond (eqb k 8) d (cond (ltb k (len + 1)) r n) ≡ cond (eqb k f) r (cond (eqb k 8) d (cond (ltb k len) r n))

@@ -59,8 +59,8 @@ module _ (m : MemoryHost) where
   pub count_kept : (h : ℕ) (r : Result ℕ ErrorCode) → r ≡ dir.entry_count (state m).disk h → EntryCount (means (state m)) h r (means (state m))
   count_kept h r e = answered (λ (out : Result ℕ ErrorCode). EntryCount (means (state m)) h out (means (state m))) e (count_law (state m) h)
 
-  pub entry_kept : (h i : ℕ) (r : Result DirEntry ErrorCode) → r ≡ dir.entry_at (state m).disk h i → EntryAt (means (state m)) h i r (means (state m))
-  entry_kept h i r e = answered (λ (out : Result DirEntry ErrorCode). EntryAt (means (state m)) h i out (means (state m))) e (entry_law (state m) h i)
+  pub entry_kept : (h i : ℕ) (r : Result DirEntry ErrorCode) → dir.EntryAt (state m).disk h i r → EntryAt (means (state m)) h i r (means (state m))
+  entry_kept h i r told = entry_law (state m) h i r told
 
   pub start_kept : (slots : List Open) (r : Start) → Gives r × (slots ≡ started) → Started (means (state m)) r (means (with_disk (state m) (with_slots (state m).disk slots)))
   start_kept slots r e = answered (λ (out : List Open). Started (means (state m)) r (means (with_disk (state m) (with_slots (state m).disk out)))) e.1 (start_law (state m) r e.0)

@@ -1,9 +1,9 @@
 // Reading and writing bytes at an offset.
 ghost use Rattle.std.specs.Prelude.{◌≡◌, ◌-◌, ◌≤◌, ◌↔◌, false, min, length, drop, IsOk, OnOk, OnErr};
-ghost use Rattle.host.specs.Laws.{filled, padded, written};
+ghost use Rattle.host.specs.Laws.{filled, written};
 ghost use Rattle.storage.specs.Held.{too_large};
 
-use arrayvec::{ArrayVec, CapacityError};
+use fixed_vec::{CapacityError, FixedVec};
 
 // Copies what lies behind the offset, as far as there is room for it.
 pub fn read_at(bytes: &[u8], offset: u64, buffer: &mut [u8]) -> usize
@@ -16,8 +16,9 @@ pub fn read_at(bytes: &[u8], offset: u64, buffer: &mut [u8]) -> usize
 }
 
 // Writes behind, over and at the end of the bytes, all of the source or nothing.
+#[tactic(auto, using(crate::proofs::Fronts::written_so))]
 pub(crate) fn write_at<const CAP: usize>(
-    bytes: &mut ArrayVec<u8, CAP>,
+    bytes: &mut FixedVec<u8, CAP>,
     offset: u64,
     source: &[u8],
 ) -> Result<(), CapacityError>
@@ -31,22 +32,9 @@ pub(crate) fn write_at<const CAP: usize>(
         return Ok(());
     }
     if offset > CAP as u64 || source.len() > CAP - offset as usize {
-        return Err(CapacityError::new(()));
+        return Err(CapacityError);
     }
     let start = offset as usize;
-    let end = start + source.len();
-    // The zeros that are written over do no harm, and make one part of the rest.
-    pad(bytes, end);
-    bytes.as_mut_slice()[start..end].copy_from_slice(source);
-    Ok(())
-}
-
-// Puts zeros behind the bytes, up to the offset.
-fn pad<const CAP: usize>(bytes: &mut ArrayVec<u8, CAP>, offset: usize)
-    requires { offset ≤ CAP }
-    ensures { bytes.new.items ≡ padded bytes.old.items offset }
-{
-    for _ in 0..offset.saturating_sub(bytes.len()) {
-        bytes.push(0);
-    }
+    bytes.try_pad(start, 0)?;
+    bytes.try_paste(start, source)
 }

@@ -4,14 +4,14 @@ ghost use Rattle.host.specs.Laws.{written};
 ghost use Rattle.storage.specs.Held.{too_large};
 
 use crate::bytes::write_at;
-use arrayvec::{ArrayVec, CapacityError};
+use fixed_vec::{CapacityError, FixedVec};
 use std::alloc::AllocError;
 
-// The ghost fields say of a file what an `ArrayVec` knows of itself, where a law speaks of files.
-#[derive(Debug, PartialEq, Eq, Drop)]
+// The ghost fields say of a file what a `FixedVec` knows of itself, where a law speaks of files.
+#[derive(Copy, Debug, PartialEq, Eq)]
 pub struct File {
-    pub name: ArrayVec<u8, 32>,
-    pub content: ArrayVec<u8, 2048>,
+    pub name: FixedVec<u8, 32>,
+    pub content: FixedVec<u8, 2048>,
     ghost short: { length name.items ≤ 32 },
     ghost small: { length content.items ≤ 2048 },
 }
@@ -22,10 +22,7 @@ impl Clone for File {
     ghost is_infallible = { λ _. ⊤ };
 
     fn clone(&self) -> Result<File, AllocError> {
-        Ok(File {
-            name: self.name.clone()?,
-            content: self.content.clone()?,
-        })
+        Ok(*self)
     }
 }
 
@@ -35,8 +32,8 @@ impl Default for File {
 
     fn default() -> File {
         File {
-            name: ArrayVec::new(),
-            content: ArrayVec::new(),
+            name: FixedVec::new(),
+            content: FixedVec::new(),
         }
     }
 }
@@ -48,8 +45,8 @@ impl File {
         ensures file { IfOk result (λ f. (f.name.items ≡ name.now) × (f.content.items ≡ [])) }
     {
         Ok(File {
-            name: ArrayVec::try_from(name)?,
-            content: ArrayVec::new(),
+            name: FixedVec::try_from(name)?,
+            content: FixedVec::new(),
         })
     }
 
@@ -68,6 +65,6 @@ impl File {
         ensures name { self.new.name ≡ self.old.name }
         ensures content { self.new.content.items ≡ [] }
     {
-        self.content.clear();
+        self.content.truncate(0);
     }
 }

@@ -1,12 +1,12 @@
 // What an output has taken.
 ghost use Rattle.std.specs.Prelude.{⊤, ◌≡◌, ◌+◌, ◌≤◌, ◌↔◌, [], ◌++◌, length, IsOk, OnOk, OnErr};
 
-use arrayvec::{ArrayVec, CapacityError};
+use fixed_vec::{CapacityError, FixedVec};
 use std::alloc::AllocError;
 
-#[derive(Debug, PartialEq, Eq, Drop)]
+#[derive(Copy, Debug, PartialEq, Eq)]
 pub struct Output {
-    pub taken: ArrayVec<u8, 8192>,
+    pub taken: FixedVec<u8, 8192>,
     ghost fits: { length taken.items ≤ 8192 },
 }
 
@@ -16,9 +16,7 @@ impl Clone for Output {
     ghost is_infallible = { λ _. ⊤ };
 
     fn clone(&self) -> Result<Output, AllocError> {
-        Ok(Output {
-            taken: self.taken.clone()?,
-        })
+        Ok(*self)
     }
 }
 
@@ -27,7 +25,7 @@ impl Output {
         ensures { result.taken.items ≡ [] }
     {
         Output {
-            taken: ArrayVec::new(),
+            taken: FixedVec::new(),
         }
     }
 
