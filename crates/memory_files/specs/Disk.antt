@@ -4,6 +4,7 @@ use Rattle.errno.specs.declared.ErrorCode.{ErrorCode}
 use Rattle.handles.specs.declared.file_number.FileNumber.{FileNumber}
 use Rattle.handles.specs.declared.open.Open.{Open}
 use Rattle.handles.specs.declared.open.Open.TheVariants.{Free}
+use Rattle.files.specs.declared.files.Files.{Files}
 use Rattle.files.specs.Lists.{Listing, listing}
 use Rattle.files.specs.Lists as lists
 use Rattle.memory_files.specs.declared.MemoryDisk.{MemoryDisk}
@@ -12,8 +13,12 @@ pub record Disk : Type 0 where
   pub slots : List Open
   pub files : Listing
 
+-- of the two halves
+abbrev pub disk_of : List Open → Files → Disk
+disk_of slots files = record { slots = slots; files = listing files }
+
 abbrev pub disk : MemoryDisk → Disk
-disk d = record { slots = d.handles; files = listing d.files }
+disk d = disk_of d.handles d.files
 
 -- nothing is open, and there are no files
 abbrev pub blank : Disk
