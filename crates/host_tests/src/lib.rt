@@ -2,5 +2,7 @@
 #![tactic(auto)]
 
 mod grudging;
+#[cfg(test)]
+mod parts;
 
 pub use grudging::Grudging;
