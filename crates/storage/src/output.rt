@@ -11,7 +11,7 @@ pub struct Output {
 }
 
 impl Clone for Output {
-    ghost is_clone = { λ a b. b.taken.items ≡ a.taken.items };
+    ghost is_clone = { λ a b. b ≡ a };
 
     ghost is_infallible = { λ _. ⊤ };
 
